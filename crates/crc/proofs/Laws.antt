@@ -1,0 +1,40 @@
+-- Laws of the register at every width and polynomial: one bit more, and one byte more.
+-- Assumes nothing.
+use mathlib.Core.Path.{_≡_, refl, sym, ap, _∙_}
+use mathlib.Core.List.{List, [], _∷_, _++_, append-nil}
+use Prim.Native.Nat.{ℕ, zero, suc, _+_, _-_, _/_, _%_, _^_, _<_}
+use native.Mathlib.Numerals.{add-one}
+use native.Mathlib.Omega.{arith}
+use lib.ListN.{length, getD, drop}
+use lib.Seq.{drop-cons}
+use Rattle.crc.specs.Crc.{bitIn, bitsIn, bitsOf, bitString, register}
+
+module _ (w p : ℕ) where
+  -- of the n - i bits left the highest goes first
+  pub bits-next : (r b n i : ℕ) → i < n
+      → bitsIn w p r (bitsOf (n - i) b) ≡ bitsIn w p (bitIn w p r (b / 2 ^ (n - 1 - i) % 2)) (bitsOf (n - (i + 1)) b)
+  unfolding bitsIn bitsOf
+  bits-next r b n i h =
+      let left : n - i ≡ suc (n - (i + 1)) = omega arith in
+      let place : n - 1 - i ≡ n - (i + 1) = omega arith in
+      rw (left, place)
+
+  -- running over one string of bits and then another gives what the joined bits give
+  bits-joined : (r : ℕ) (x y : List ℕ) → bitsIn w p r (x ++ y) ≡ bitsIn w p (bitsIn w p r x) y
+  unfolding bitsIn
+  bits-joined r [] y = refl
+  bits-joined r (d ∷ x) y = bits-joined (bitIn w p r d) x y
+
+  -- one byte is its eight bits
+  pub register-byte : (r b : ℕ) → register w p r (b ∷ []) ≡ bitsIn w p r (bitsOf 8 b)
+  unfolding register bitString
+  register-byte r b = ap (bitsIn w p r) (append-nil (bitsOf 8 b))
+
+  -- one byte more
+  pub register-next : (r : ℕ) (s : List ℕ) (i : ℕ) → i < length s
+      → register w p r (drop i s) ≡ register w p (register w p r (getD s i 0 ∷ [])) (drop (i + 1) s)
+  unfolding register bitString
+  register-next r s i h =
+      rw (add-one, drop-cons s i 0)
+      (bits-joined r (bitsOf 8 (getD s i 0)) (bitString (drop (suc i) s))
+      ∙ ap (λ (x : ℕ). bitsIn w p x (bitString (drop (suc i) s))) (sym (register-byte r (getD s i 0))))

@@ -1,0 +1,16 @@
+// Outside vectors and bad input, run and printed, to be compared with the file `stdout` beside
+// src/. The vectors are lines of the file `stdin`: a label, a colon, the kind of vector and its
+// bytes. Each is answered behind its label; a line without a colon is a heading. After them come
+// the checks that go through every length, bit or code.
+mod lines;
+mod packets;
+mod refusals;
+mod show;
+
+fn main() {
+    let mut input = io::large_buffer();
+    let n = io::read_full(libc::STDIN_FILENO, &mut input);
+    lines::run(&input[..n]);
+    packets::run();
+    refusals::run();
+}
