@@ -14,14 +14,14 @@ use lib.ListN.{length, getD, take, drop, length-drop, take-append-drop, drop-of-
 use lib.Seq.{drop-cons, getD-drop, length-take-le}
 use Rattle.crc.specs.Crc.{checksumOf}
 use Rattle.packet.specs.Bytes.{Bytes, wordAt, twoBytes}
-use Rattle.packet.specs.Packet.{packetOf, IsPacket, coreLength, coreOf, carried, acknowledgementOf}
+use Rattle.packet.specs.Packet.{packetOf, longestCore, IsPacket, coreLength, coreOf, carried, acknowledgementOf}
 use Rattle.packet.proofs.Written.{no-fault}
 
 -- what holds of a message without fault
 pub record Faultless (message : List ℕ) : Type 0 where
   pub opens : getD message 0 0 ≡ 0x80
   pub some : 1 ≤ coreLength message
-  pub small : coreLength message ≤ 261
+  pub small : coreLength message ≤ longestCore
   pub exact : length message ≡ coreLength message + 5
   pub right : carried message ≡ checksumOf (coreOf message)
 
@@ -37,7 +37,7 @@ faultless m e =
     let e2 = passed (not (eqb (getD m 0 0) 0x80)) 0x51 _ (λ z. omega arith) (e1 .1) in
     let e3 = passed (ltb (length m) 3) 0x55 _ (λ z. omega arith) (e2 .1) in
     let e4 = passed (eqb (coreLength m) 0) 0x53 _ (λ z. omega arith) (e3 .1) in
-    let e5 = passed (ltb 261 (coreLength m)) 0x54 _ (λ z. omega arith) (e4 .1) in
+    let e5 = passed (ltb longestCore (coreLength m)) 0x54 _ (λ z. omega arith) (e4 .1) in
     let e6 = passed (not (eqb (length m) (coreLength m + 5))) 0x55 _ (λ z. omega arith) (e5 .1) in
     let e7 = passed (not (eqb (carried m) (checksumOf (coreOf m)))) 0x52 _ (λ z. omega arith) (e6 .1) in
     let nonzero : coreLength m ≡ 0 → ⊥ = eqb-false _ _ (e4 .0) in

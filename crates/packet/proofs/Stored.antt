@@ -1,7 +1,7 @@
--- Laws of bytes stored at a place: as a lent part comes back, one store after another, and the length.
+-- Laws of bytes stored at a place: as a lent part comes back, and one store behind another.
 -- Assumes nothing.
-use mathlib.Core.Path.{_≡_, refl, sym, ap, ap₂, _∙_}
-use mathlib.Core.List.{List, [], _∷_, _++_, append-nil, append-assoc}
+use mathlib.Core.Path.{_≡_, ap, _∙_}
+use mathlib.Core.List.{List, [], _++_, append-nil, append-assoc}
 use Prim.Native.Nat.{ℕ, _+_, _-_, _≤_}
 use native.Mathlib.Nat.{add-assoc}
 use native.Mathlib.Omega.{arith}
@@ -22,11 +22,6 @@ part-copied at new old h =
 module _ (at : ℕ) (x old : List ℕ) (fits : at + length x ≤ length old) where
   front-length : length (take at old ++ x) ≡ at + length x
   front-length = length-append (take at old) x ∙ ap (λ (n : ℕ). n + length x) (length-take-le at old (omega arith))
-
-  pub stored-length : length (storedAt at x old) ≡ length old
-  unfolding storedAt
-  stored-length =
-      rw (← append-assoc, length-append (take at old ++ x), front-length, length-drop (at + length x) old) (omega arith)
 
   -- bytes stored right behind others are stored with them
   pub stored-joined : (y : List ℕ) → storedAt (at + length x) y (storedAt at x old) ≡ storedAt at (x ++ y) old

@@ -1,15 +1,15 @@
 -- Laws of a written packet: its parts are read back, it has no fault, and it is stored part by part.
 -- Assumes nothing.
-use mathlib.Core.Path.{_≡_, refl, sym, ap, _∙_}
+use mathlib.Core.Path.{_≡_, refl, ap, _∙_}
 use mathlib.Core.List.{List, [], _∷_, _++_}
-use Prim.Native.Nat.{ℕ, suc, _+_, _*_, _/_, _%_, _≤_}
+use Prim.Native.Nat.{ℕ, suc, _+_, _/_, _%_, _≤_}
 use native.Mathlib.Omega.{arith}
 use borrow.Author.Tests.{eq-eqb, ne-eqb, le-ltb}
-use lib.ListN.{length, getD, take, drop, length-append}
+use lib.ListN.{length, getD, length-append}
 use lib.Seq.{take-append-seam, getD-append-seam, getD-append-add}
 use Rattle.crc.specs.Crc.{checksumOf}
 use Rattle.packet.specs.Bytes.{wordAt, twoBytes, storedAt}
-use Rattle.packet.specs.Packet.{packetOf, coreLength, coreOf, carried, acknowledgementOf}
+use Rattle.packet.specs.Packet.{packetOf, longestCore, coreLength, coreOf, carried, acknowledgementOf}
 use Rattle.packet.proofs.Stored.{stored-joined}
 
 module _ (core : List ℕ) where
@@ -43,7 +43,7 @@ module _ (core : List ℕ) where
   first-byte = refl
 
   -- a written packet has no fault
-  pub no-fault : 1 ≤ length core → length core ≤ 261 → acknowledgementOf (packetOf core) ≡ 0x00
+  pub no-fault : 1 ≤ length core → length core ≤ longestCore → acknowledgementOf (packetOf core) ≡ 0x00
   unfolding acknowledgementOf
   no-fault some small =
       rw (
@@ -55,7 +55,7 @@ module _ (core : List ℕ) where
         ne-eqb (length core + 5) 0 (λ e. omega arith),
         le-ltb (length core + 5) 3 (omega arith),
         ne-eqb (length core) 0 (λ e. omega arith),
-        le-ltb 261 (length core) small,
+        le-ltb longestCore (length core) small,
         eq-eqb (length core + 5) (length core + 5) refl,
         eq-eqb (checksumOf core) (checksumOf core) refl,
         acknowledgementOf,

@@ -1,7 +1,7 @@
 -- Packets and their commands (document 01, "Checksum and packet"), and the judgement of a message (document 01, "The loader").
 -- Assumes nothing.
 use mathlib.Core.Bool.{Bool, true, false, cond, not, _&&_}
-use mathlib.Core.List.{List, [], _∷_, _++_}
+use mathlib.Core.List.{List, _∷_, _++_}
 use mathlib.Core.Path.{_≡_}
 use Prim.Native.Nat.{ℕ, _+_, _*_, _≤_}
 use lib.Dec.{eqb, leb, ltb}
@@ -15,11 +15,15 @@ use Rattle.packet.specs.declared.Command.the-variants.{Password, Erase, 
 unfoldable pub packetOf : List ℕ → List ℕ
 packetOf core = 0x80 ∷ twoBytes (length core) ++ core ++ twoBytes (checksumOf core)
 
+-- the greatest core length
+abbrev pub longestCore : ℕ
+longestCore = 261
+
 -- a message is a packet: the one around some core of 1 to 261 bytes
 pub record IsPacket (message : List ℕ) : Type 0 where
   pub core : List ℕ
   pub some : 1 ≤ length core
-  pub small : length core ≤ 261
+  pub small : length core ≤ longestCore
   pub around : message ≡ packetOf core
 
 -- the core length that a message states
@@ -41,7 +45,7 @@ acknowledgementOf message =
     (cond (not (eqb (getD message 0 0) 0x80)) 0x51
     (cond (ltb (length message) 3) 0x55
     (cond (eqb (coreLength message) 0) 0x53
-    (cond (ltb 261 (coreLength message)) 0x54
+    (cond (ltb longestCore (coreLength message)) 0x54
     (cond (not (eqb (length message) (coreLength message + 5))) 0x55
     (cond (not (eqb (carried message) (checksumOf (coreOf message)))) 0x52 0x00))))))
 
@@ -77,6 +81,6 @@ written done buffer = record { done = done; buffer = buffer }
 -- a packet around a core of 1 to 261 bytes over the front of a buffer that has the room; otherwise nothing
 unfoldable pub writeOf : List ℕ → List ℕ → Written
 writeOf core buffer =
-    cond (leb 1 (length core) && (leb (length core) 261 && leb (length core + 5) (length buffer)))
+    cond (leb 1 (length core) && (leb (length core) longestCore && leb (length core + 5) (length buffer)))
     (written true (storedAt 0 (packetOf core) buffer))
     (written false buffer)

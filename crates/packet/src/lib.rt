@@ -8,6 +8,9 @@ ghost use lib.ListN.{length, getD};
 ghost use Rattle.packet.specs.Bytes.{wordAt, storedAt};
 ghost use Rattle.packet.specs.Packet.{coreLength, coreOf, acknowledgementOf, inRow, commandOf, addressOf, rangeLengthOf, packetOf, written, writeOf};
 
+// The greatest core length.
+const LONGEST_CORE: usize = 261;
+
 // The rows of document 01's table of commands; Unknown is every other code or core length.
 pub enum Command {
     Password,
@@ -75,7 +78,7 @@ pub fn acknowledgement(message: &[u8]) -> u8
     if stated == 0 {
         return 0x53;
     }
-    if 261 < stated {
+    if LONGEST_CORE < stated {
         return 0x54;
     }
     if message.len() != stated + 5 {
@@ -172,7 +175,7 @@ pub fn write(core: &[u8], out: &mut [u8]) -> bool
     if n < 1 {
         return false;
     }
-    if 261 < n {
+    if LONGEST_CORE < n {
         return false;
     }
     if out.len() < n + 5 {

@@ -4,7 +4,6 @@
 // the checks that go through every length, bit or code.
 mod lines;
 mod packets;
-mod refusals;
 mod show;
 
 fn main() {
@@ -12,5 +11,4 @@ fn main() {
     let n = io::read_full(libc::STDIN_FILENO, &mut input);
     lines::run(&input[..n]);
     packets::run();
-    refusals::run();
 }

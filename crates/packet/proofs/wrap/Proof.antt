@@ -1,7 +1,5 @@
 -- `packet::wrap` meets its contract: head, core and checksum are stored one behind the other.
 -- Assumes nothing.
-use mathlib.Core.Path.{_≡_, sym, ap, _∙_}
-use Prim.Native.Nat.{_*_, _/_, _%_}
 use native.Mathlib.Omega.{arith}
 use Rattle.packet.proofs.Written.{packet-stored}
 use borrow.Author.Needs.{needs}
