@@ -4,9 +4,11 @@
 // of them asks anything of its input.
 ghost use mathlib.Core.Path.{_≡_};
 ghost use Prim.Native.Nat.{_+_, _*_, _<_, _≤_};
+ghost use lib.Dec.{eqb};
 ghost use lib.ListN.{length, getD};
+ghost use Rattle.crc.specs.Crc.{checksumOf};
 ghost use Rattle.packet.specs.Bytes.{wordAt, storedAt};
-ghost use Rattle.packet.specs.Packet.{coreLength, coreOf, acknowledgementOf, inRow, commandOf, addressOf, rangeLengthOf, packetOf, written, writeOf};
+ghost use Rattle.packet.specs.Packet.{coreLength, coreOf, carried, acknowledgementOf, inRow, commandOf, addressOf, rangeLengthOf, packetOf, written, writeOf};
 
 // The greatest core length.
 const LONGEST_CORE: usize = 261;
@@ -33,7 +35,7 @@ fn byte_at(bytes: &[u8], at: usize) -> usize
 
 // The number of the two bytes at a place, low byte first.
 fn word_at(bytes: &[u8], at: usize) -> usize
-    requires { ⌜ at < 65536 ⌝ }
+    requires { ⌜ at < 131072 ⌝ }
     ensures { λ r. ⌜ (r ≡ wordAt (now (bytes .entry)) at) × (r < 65536) ⌝ }
 {
     byte_at(bytes, at) + 256 * byte_at(bytes, at + 1)
@@ -61,6 +63,16 @@ pub fn core(message: &[u8]) -> &[u8]
     &message[3..end]
 }
 
+// Whether a message that is as long as it states carries the checksum of its core.
+fn sum_right(message: &[u8]) -> bool
+    requires { ⌜ length (now message) ≡ coreLength (now message) + 5 ⌝ }
+    ensures { λ r. ⌜ r ≡ eqb (carried (now (message .entry))) (checksumOf (coreOf (now (message .entry)))) ⌝ }
+{
+    let end = 3 + core_length(message);
+    let sum = crc::checksum(&message[3..end]);
+    word_at(message, end) == sum as usize
+}
+
 // The byte that answers a message: its first fault, or 0x00.
 pub fn acknowledgement(message: &[u8]) -> u8
     ensures { λ r. ⌜ r ≡ acknowledgementOf (now (message .entry)) ⌝ }
@@ -84,9 +96,7 @@ pub fn acknowledgement(message: &[u8]) -> u8
     if message.len() != stated + 5 {
         return 0x55;
     }
-    let end = 3 + stated;
-    let sum = crc::checksum(&message[3..end]);
-    if word_at(message, end) != sum as usize {
+    if !sum_right(message) {
         return 0x52;
     }
     0x00

@@ -6,58 +6,39 @@ use Prim.Native.Nat.{ℕ}
 use lib.ListN.{getD}
 use Rattle.refusal.specs.Refusal.{numberOf}
 use Rattle.refusal.specs.declared.Refusal.{Refusal}
-use Rattle.refusal.specs.declared.Refusal.the-variants.{
-  RegionSize,
-  PasswordLength,
-  EntryOutside,
-  TooLong,
-  TextMalformed,
-  AddressOutside,
-  AddressRepeated,
-  OutputShort,
-  ScriptHead,
-  PacketCut,
-  PictureDiffers,
-  RefusedOverZeros,
-  RefusedOverOnes,
-  BytesAfterStart,
-  NotStarted,
-  RequestUnknown,
-  RequestForOtherCard,
-  RecordUnsound,
-}
+use Rattle.refusal.specs.declared.Refusal.the-variants as the
 
 -- the refusals from number 1 on
 inOrder : List Refusal
 inOrder =
-    RegionSize ∷ PasswordLength ∷ TextMalformed ∷ AddressOutside ∷ AddressRepeated ∷ ScriptHead ∷ PacketCut ∷ RefusedOverZeros
-    ∷ RefusedOverOnes ∷ PictureDiffers ∷ BytesAfterStart ∷ NotStarted ∷ OutputShort ∷ EntryOutside ∷ RequestUnknown ∷ RequestForOtherCard
-    ∷ RecordUnsound ∷ TooLong ∷ []
+    the.RegionSize ∷ the.PasswordLength ∷ the.TextMalformed ∷ the.AddressOutside ∷ the.AddressRepeated ∷ the.ScriptHead ∷ the.PacketCut ∷ the.RefusedOverZeros
+    ∷ the.RefusedOverOnes ∷ the.PictureDiffers ∷ the.BytesAfterStart ∷ the.NotStarted ∷ the.OutputShort ∷ the.EntryOutside ∷ the.RequestUnknown ∷ the.RequestForOtherCard
+    ∷ the.RecordUnsound ∷ the.TooLong ∷ []
 
 -- the refusal that has a number
 named : ℕ → Refusal
-named n = getD (RegionSize ∷ inOrder) n RegionSize
+named n = getD (the.RegionSize ∷ inOrder) n the.RegionSize
 
 named-again : (r : Refusal) → named (numberOf r) ≡ r
 unfolding named inOrder
-named-again RegionSize = refl
-named-again PasswordLength = refl
-named-again EntryOutside = refl
-named-again TooLong = refl
-named-again TextMalformed = refl
-named-again AddressOutside = refl
-named-again AddressRepeated = refl
-named-again OutputShort = refl
-named-again ScriptHead = refl
-named-again PacketCut = refl
-named-again PictureDiffers = refl
-named-again RefusedOverZeros = refl
-named-again RefusedOverOnes = refl
-named-again BytesAfterStart = refl
-named-again NotStarted = refl
-named-again RequestUnknown = refl
-named-again RequestForOtherCard = refl
-named-again RecordUnsound = refl
+named-again the.RegionSize = refl
+named-again the.PasswordLength = refl
+named-again the.EntryOutside = refl
+named-again the.TooLong = refl
+named-again the.TextMalformed = refl
+named-again the.AddressOutside = refl
+named-again the.AddressRepeated = refl
+named-again the.OutputShort = refl
+named-again the.ScriptHead = refl
+named-again the.PacketCut = refl
+named-again the.PictureDiffers = refl
+named-again the.RefusedOverZeros = refl
+named-again the.RefusedOverOnes = refl
+named-again the.BytesAfterStart = refl
+named-again the.NotStarted = refl
+named-again the.RequestUnknown = refl
+named-again the.RequestForOtherCard = refl
+named-again the.RecordUnsound = refl
 
 pub distinct : (a b : Refusal) → numberOf a ≡ numberOf b → a ≡ b
 distinct a b same = sym (named-again a) ∙ ap named same ∙ named-again b

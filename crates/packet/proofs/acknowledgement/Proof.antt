@@ -1,7 +1,7 @@
 -- `packet::acknowledgement` meets its contract: at each answer the tests that led there pick the case.
 -- Assumes nothing.
-use native.Mathlib.Nat.{add-sub-cancel-left}
-use borrow.Author.Tests.{eq-eqb, ne-eqb, lt-ltb, le-ltb}
+use mathlib.Core.Path.{sym, _∙_}
+use borrow.Author.Tests.{eq-eqb, ne-eqb, lt-ltb, le-ltb, not-true, not-false}
 use Rattle.packet.specs.Packet.{acknowledgementOf}
 use borrow.Author.Needs.{needs}
 use Rattle.packet.proofs.acknowledgement.Statement.{statement}
@@ -74,61 +74,33 @@ returns-6 c =
       ne-eqb _ _ (c .if6 .taken),
     ))
 
-add-end : tie.Need-add-end
-add-end c = search needs
-
-sub-checksum : tie.Need-sub-checksum
-sub-checksum c = search needs
-
-part-checksum-start : tie.Need-part-checksum-start
-part-checksum-start c = search needs
-
-part-checksum-end : tie.Need-part-checksum-end
-part-checksum-end c = search needs
-
-checksum-requires : tie.Need-checksum-requires
-checksum-requires c κs = search needs
-
-word-at-requires : tie.Need-word-at-requires
-word-at-requires c κs = search needs
-
-cast-if7 : tie.Need-cast-if7
-cast-if7 c = search needs
+sum-right-requires : tie.Need-sum-right-requires
+sum-right-requires c κs = search needs
 
 returns-7 : tie.Need-returns-7
 unfolding acknowledgementOf
 returns-7 c =
-    rw (
-      ← (c .before .before .before .before .before .before .before .core-length .ensures .0),
-      ← (c .before .word-at .ensures .0),
-      ← (simp add-sub-cancel-left at (c .before .before .checksum .ensures)),
-    )
+    rw (sym (c .before .sum-right .ensures) ∙ not-true _ (c .if7 .taken), ← (c .before .before .before .before .before .core-length .ensures .0))
     (simp (
-      ne-eqb _ _ (c .before .before .before .before .before .before .before .before .before .before .before .if1 .left),
-      eq-eqb _ _ (c .before .before .before .before .before .before .before .before .before .if2 .left),
-      le-ltb _ _ (c .before .before .before .before .before .before .before .before .if3 .left),
-      ne-eqb _ _ (c .before .before .before .before .before .before .if4 .left),
-      le-ltb _ _ (c .before .before .before .before .before .if5 .left),
-      eq-eqb _ _ (c .before .before .before .before .if6 .left),
-      ne-eqb _ _ (c .if7 .taken),
+      ne-eqb _ _ (c .before .before .before .before .before .before .before .before .before .if1 .left),
+      eq-eqb _ _ (c .before .before .before .before .before .before .before .if2 .left),
+      le-ltb _ _ (c .before .before .before .before .before .before .if3 .left),
+      ne-eqb _ _ (c .before .before .before .before .if4 .left),
+      le-ltb _ _ (c .before .before .before .if5 .left),
+      eq-eqb _ _ (c .before .before .if6 .left),
     ))
 
 returns-8 : tie.Need-returns-8
 unfolding acknowledgementOf
 returns-8 c =
-    rw (
-      ← (c .before .before .before .before .before .before .before .core-length .ensures .0),
-      ← (c .before .word-at .ensures .0),
-      ← (simp add-sub-cancel-left at (c .before .before .checksum .ensures)),
-    )
+    rw (sym (c .before .sum-right .ensures) ∙ not-false _ (c .if7 .left), ← (c .before .before .before .before .before .core-length .ensures .0))
     (simp (
-      ne-eqb _ _ (c .before .before .before .before .before .before .before .before .before .before .before .if1 .left),
-      eq-eqb _ _ (c .before .before .before .before .before .before .before .before .before .if2 .left),
-      le-ltb _ _ (c .before .before .before .before .before .before .before .before .if3 .left),
-      ne-eqb _ _ (c .before .before .before .before .before .before .if4 .left),
-      le-ltb _ _ (c .before .before .before .before .before .if5 .left),
-      eq-eqb _ _ (c .before .before .before .before .if6 .left),
-      eq-eqb _ _ (c .if7 .left),
+      ne-eqb _ _ (c .before .before .before .before .before .before .before .before .before .if1 .left),
+      eq-eqb _ _ (c .before .before .before .before .before .before .before .if2 .left),
+      le-ltb _ _ (c .before .before .before .before .before .before .if3 .left),
+      ne-eqb _ _ (c .before .before .before .before .if4 .left),
+      le-ltb _ _ (c .before .before .before .if5 .left),
+      eq-eqb _ _ (c .before .before .if6 .left),
     ))
 
 pub acknowledgement-spec : {M : Type 1} → statement M
@@ -144,12 +116,6 @@ acknowledgement-spec =
     returns-5
     add-if6
     returns-6
-    add-end
-    sub-checksum
-    part-checksum-start
-    part-checksum-end
-    checksum-requires
-    word-at-requires
-    cast-if7
+    sum-right-requires
     returns-7
     returns-8)
