@@ -1,7 +1,7 @@
 // The lines of vectors: found, their bytes read, and each handed to the part of its kind.
 use crate::packets;
 use crate::show;
-ghost use Prim.Native.Nat.{_≤_, _<_};
+ghost use Prim.Native.Nat.{_≤_};
 ghost use lib.ListN.{length};
 
 // The place of the first such byte, or the end.
@@ -18,32 +18,48 @@ fn find(text: &[u8], wanted: u8) -> usize
     i
 }
 
-// The value of a hexadecimal digit in lower case.
-fn digit(b: u8) -> u8
-    ensures { λ r. ⌜ r < 16 ⌝ }
-{
-    let number = std::num::wrapping_sub_u8(b, b'0');
-    if number < 10 {
-        return number;
+// The value of a hexadecimal digit, 16 for any other byte.
+fn digit(b: u8) -> u8 {
+    match b {
+        b'0'..=b'9' => b - b'0',
+        b'a'..=b'f' => b - b'a' + 10,
+        b'A'..=b'F' => b - b'A' + 10,
+        _ => 16,
     }
-    let letter = std::num::wrapping_sub_u8(b, b'a');
-    if letter < 6 {
-        return letter + 10;
-    }
-    0
 }
 
-// The bytes of a list of two digits each, a space before each: how many, at most as many as fit.
+// The byte of a space and two digits, 256 for any other three.
+fn pair(space: u8, first: u8, second: u8) -> u16 {
+    let high = digit(first);
+    let low = digit(second);
+    if space != b' ' {
+        return 256;
+    }
+    if 15 < high {
+        return 256;
+    }
+    if 15 < low {
+        return 256;
+    }
+    (high * 16 + low) as u16
+}
+
+// The bytes of a list of two digits each, a space before each. The answer is how many were read up
+// to the list's end, the first that is none, or the end of the room.
 fn bytes_of(words: &[u8], out: &mut [u8]) -> usize
     ensures { λ r. ⌜ r ≤ length (now (out .exit)) ⌝ }
 {
     let n = words.len() / 3;
     let mut i = 0;
     while i < n {
+        let value = pair(words[3 * i], words[3 * i + 1], words[3 * i + 2]);
+        if 255 < value {
+            return i;
+        }
         if out.len() <= i {
             return i;
         }
-        out[i] = digit(words[3 * i + 1]) * 16 + digit(words[3 * i + 2]);
+        out[i] = value as u8;
         i += 1;
     }
     i
@@ -67,8 +83,13 @@ fn line(text: &[u8]) {
         return;
     }
     show::text(b":");
+    let words = &text[colon + 3..];
     let mut bytes = [0u8; 512];
-    let n = bytes_of(&text[colon + 3..], &mut bytes);
+    let n = bytes_of(words, &mut bytes);
+    if words.len() / 3 != n || words.len() % 3 != 0 {
+        show::text(b" not a list of at most 512 bytes");
+        return;
+    }
     vector(text[colon + 2], &bytes[..n]);
 }
 

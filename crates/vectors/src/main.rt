@@ -1,7 +1,7 @@
 // Outside vectors and bad input, run and printed, to be compared with the file `stdout` beside
-// src/. The vectors are lines of the file `stdin`: a label, a colon, the kind of vector and its
-// bytes. Each is answered behind its label; a line without a colon is a heading. After them come
-// the checks that go through every length, bit or code.
+// src/. The vectors are lines of the input, of which 65,536 bytes are read: a label, a colon, the
+// kind of vector and its bytes. Each is answered behind its label; a line without a colon is a
+// heading. After them come the checks that go through every core length and every bit of a packet.
 mod lines;
 mod packets;
 mod show;

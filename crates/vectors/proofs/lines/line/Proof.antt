@@ -28,23 +28,32 @@ slice-aggregate-text-2 c = search needs
 text-requires-2 : tie.Need-text-requires-2
 text-requires-2 c κs = search needs
 
-add-bytes-of : tie.Need-add-bytes-of
-add-bytes-of c = search needs
+add-words : tie.Need-add-words
+add-words c = search needs
 
-sub-bytes-of : tie.Need-sub-bytes-of
-sub-bytes-of c = search needs
+sub-words : tie.Need-sub-words
+sub-words c = search needs
 
-part-bytes-of-start : tie.Need-part-bytes-of-start
-part-bytes-of-start c = search needs
+part-words-start : tie.Need-part-words-start
+part-words-start c = search needs
 
-part-bytes-of-end : tie.Need-part-bytes-of-end
-part-bytes-of-end c = search needs
+part-words-end : tie.Need-part-words-end
+part-words-end c = search needs
 
 slice-aggregate-bytes-of : tie.Need-slice-aggregate-bytes-of
 slice-aggregate-bytes-of c = search needs
 
 bytes-of-requires : tie.Need-bytes-of-requires
 bytes-of-requires c κs = search needs
+
+slice-aggregate-text-3 : tie.Need-slice-aggregate-text-3
+slice-aggregate-text-3 c = search needs
+
+text-requires-3 : tie.Need-text-requires-3
+text-requires-3 c κs = search needs
+
+returns-2 : tie.Need-returns-2
+returns-2 c = search needs
 
 add-vector : tie.Need-add-vector
 add-vector c = search needs
@@ -61,8 +70,8 @@ slice-aggregate-vector c = sym (length-take-le _ _ (omega arith))
 vector-requires : tie.Need-vector-requires
 vector-requires c κs = search needs
 
-returns-2 : tie.Need-returns-2
-returns-2 c = search needs
+returns-3 : tie.Need-returns-3
+returns-3 c = search needs
 
 pub line-spec : {M : Type 1} → statement M
 line-spec =
@@ -75,15 +84,18 @@ line-spec =
     returns
     slice-aggregate-text-2
     text-requires-2
-    add-bytes-of
-    sub-bytes-of
-    part-bytes-of-start
-    part-bytes-of-end
+    add-words
+    sub-words
+    part-words-start
+    part-words-end
     slice-aggregate-bytes-of
     bytes-of-requires
+    slice-aggregate-text-3
+    text-requires-3
+    returns-2
     add-vector
     shared-slice-read-vector
     array-share-prefix-bytes
     slice-aggregate-vector
     vector-requires
-    returns-2)
+    returns-3)
