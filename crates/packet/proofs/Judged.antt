@@ -56,19 +56,21 @@ two-again n low high small e =
     let highest : n / 256 ≡ high = omega arith in
     rw (lowest, highest)
 
--- a list in front of what is left of it
+-- the first three elements, and what is left
 three-first : (m : List ℕ) → 3 ≤ length m → m ≡ getD m 0 0 ∷ getD m 1 0 ∷ getD m 2 0 ∷ drop 3 m
 three-first [] h = absurd (omega arith)
 three-first (a ∷ []) h = absurd (omega arith)
 three-first (a ∷ b ∷ []) h = absurd (omega arith)
 three-first (a ∷ b ∷ d ∷ rest) h = refl
 
+-- all but the last two, and those
 two-last : (rest : List ℕ) (n : ℕ) → length rest ≡ n + 2 → rest ≡ take n rest ++ (getD rest n 0 ∷ getD rest (n + 1) 0 ∷ [])
 two-last rest n h =
     let none : drop (suc (suc n)) rest ≡ [] = drop-of-length-le rest {i = suc (suc n)} (omega arith) in
     sym (take-append-drop n rest)
     ∙ ap (λ (l : List ℕ). take n rest ++ l) (rw (drop-cons rest n 0 (omega arith), drop-cons rest (suc n) 0 (omega arith), none, add-one))
 
+-- the core and its checksum
 behind : (m : List ℕ) → Faultless m → length (drop 3 m) ≡ coreLength m + 2
 behind m f = rw length-drop (omega (arith, f .exact))
 
