@@ -154,12 +154,12 @@ pub fn range_length(core: &[u8]) -> usize
     word_at(core, 5)
 }
 
-// Bytes stored from a place on.
-fn store(bytes: &[u8], at: usize, out: &mut [u8])
-    requires { ⌜ at + length (now bytes) ≤ length (now out) ⌝ }
-    ensures { λ _. ⌜ now (out .exit) ≡ storedAt at (now (bytes .entry)) (now (out .entry)) ⌝ }
+// New bytes stored from a place on.
+fn store(new: &[u8], at: usize, out: &mut [u8])
+    requires { ⌜ at + length (now new) ≤ length (now out) ⌝ }
+    ensures { λ _. ⌜ now (out .exit) ≡ storedAt at (now (new .entry)) (now (out .entry)) ⌝ }
 {
-    bytes::copy(bytes, &mut out[at..]);
+    bytes::copy(new, &mut out[at..]);
 }
 
 // A packet around a core of at most 261 bytes, over the front of a buffer that has the room.

@@ -29,7 +29,7 @@ returns c =
     let a = c .before .before .before .before .before .before .args in
     let out = a .out .now in
     ap (λ (l : List ℕ). take (a .at) out ++ (l ++ drop (length out - a .at) (drop (a .at) out))) (c .before .before .copy .ensures .1)
-    ∙ part-copied (a .at) (a .bytes .now) out (c .before .before .before .before .before .before .pre)
+    ∙ part-copied (a .at) (a .new .now) out (c .before .before .before .before .before .before .pre)
 
 pub store-spec : {M : Type 1} → statement M
 store-spec =

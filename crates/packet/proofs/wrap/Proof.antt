@@ -1,6 +1,11 @@
 -- `packet::wrap` meets its contract: head, core and checksum are stored one behind the other.
 -- Assumes nothing.
+use mathlib.Core.Path.{ap, _∙_}
+use mathlib.Core.List.{_∷_}
+use Prim.Native.Nat.{ℕ, _+_}
 use native.Mathlib.Omega.{arith}
+use lib.ListN.{length}
+use Rattle.packet.specs.Bytes.{twoBytes, storedAt}
 use Rattle.packet.proofs.Written.{packet-stored}
 use borrow.Author.Needs.{needs}
 use Rattle.packet.proofs.wrap.Statement.{statement}
@@ -45,7 +50,14 @@ same-length c = search needs
 returns : tie.Need-returns
 returns c =
     let a = c .before .before .before .before .before .before .before .before .before .before .before .before .before .before .before .before .before .args in
-    cc (packet-stored (a .core .now) (a .out .now) (omega arith))
+    let core = a .core .now in
+    let out = a .out .now in
+    let n = length core in
+    let sum = c .before .before .before .before .before .before .before .before .before .before .before .before .before .before .checksum in
+    c .before .before .store3 .ensures
+    ∙ ap (storedAt (3 + n) (twoBytes (sum .result))) (c .before .before .before .before .before .before .before .store2 .ensures ∙ ap (storedAt 3 core) (c .before .before .before .before .before .before .before .before .before .before .before .store .ensures))
+    ∙ ap (λ (s : ℕ). storedAt (3 + n) (twoBytes s) (storedAt 3 core (storedAt 0 (0x80 ∷ twoBytes n) out))) (sum .ensures)
+    ∙ packet-stored core out (omega arith)
 
 pub wrap-spec : {M : Type 1} → statement M
 wrap-spec =
