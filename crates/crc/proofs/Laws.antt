@@ -1,13 +1,16 @@
--- Laws of the register at every width and polynomial: one bit more, and one byte more.
+-- Laws of the register at every width and polynomial: one bit more, one byte more, and that it keeps its width.
 -- Assumes nothing.
 use mathlib.Core.Path.{_≡_, refl, sym, ap, _∙_}
 use mathlib.Core.List.{List, [], _∷_, _++_, append-nil}
-use Prim.Native.Nat.{ℕ, suc, _+_, _-_, _/_, _%_, _^_, _<_}
+use Prim.Native.Nat.{ℕ, zero, suc, _+_, _-_, _*_, _/_, _%_, _^_, _<_}
+use native.Mathlib.Nat.{mod-lt}
 use native.Mathlib.Numerals.{add-one}
 use native.Mathlib.Omega.{arith}
+use lib.Bits.{bitXor, xor-lt}
 use lib.ListN.{length, getD, drop}
+use lib.Pow.{pow-pos}
 use lib.Seq.{drop-cons}
-use Rattle.crc.specs.Crc.{bitIn, bitsIn, bitsOf, bitString, register}
+use Rattle.crc.specs.Crc.{shifted, bitIn, bitsIn, bitsOf, bitString, register, checksumOf}
 
 module _ (w p : ℕ) where
   -- of the n - i bits left the highest goes first
@@ -38,3 +41,27 @@ module _ (w p : ℕ) where
       rw (add-one, drop-cons s i 0)
       (bits-joined r (bitsOf 8 (getD s i 0)) (bitString (drop (suc i) s))
       ∙ ap (λ (x : ℕ). bitsIn w p x (bitString (drop (suc i) s))) (sym (register-byte r (getD s i 0))))
+
+-- a number taken once or not at all
+once-lt : (bit n bound : ℕ) → bit < 2 → n < bound → bit * n < bound
+once-lt zero n bound b h = omega arith
+once-lt (suc zero) n bound b h = omega arith
+once-lt (suc (suc bit)) n bound b h = absurd (omega arith)
+
+-- a register whose width holds the polynomial keeps that width
+module _ (w p : ℕ) (fits : p < 2 ^ w) where
+  shifted-lt : (r : ℕ) → shifted w p r < 2 ^ w
+  unfolding shifted
+  shifted-lt r = xor-lt w _ _ (mod-lt (r * 2) (pow-pos w)) (once-lt (r / 2 ^ (w - 1) % 2) p (2 ^ w) (omega arith) fits)
+
+  bits-lt : (r : ℕ) → r < 2 ^ w → (bits : List ℕ) → bitsIn w p r bits < 2 ^ w
+  unfolding bitsIn bitIn
+  bits-lt r h [] = h
+  bits-lt r h (d ∷ bits) = bits-lt (bitIn w p r d) (shifted-lt (bitXor r (d * 2 ^ (w - 1)))) bits
+
+  pub register-lt : (r : ℕ) → r < 2 ^ w → (bytes : List ℕ) → register w p r bytes < 2 ^ w
+  unfolding register
+  register-lt r h bytes = bits-lt r h (bitString bytes)
+
+pub checksum-lt : (bytes : List ℕ) → checksumOf bytes < 65536
+checksum-lt = register-lt 16 0x1021 (omega arith) 0xFFFF (omega arith)

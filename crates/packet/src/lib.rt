@@ -3,11 +3,11 @@
 // address and range length are read off by the others; `write` puts a packet around a core. None
 // of them asks anything of its input.
 ghost use mathlib.Core.Path.{_≡_};
-ghost use Prim.Native.Nat.{_+_, _*_, _<_, _≤_};
+ghost use Prim.Native.Nat.{_+_, _<_, _≤_};
 ghost use lib.Dec.{eqb};
-ghost use lib.ListN.{length, getD};
+ghost use lib.ListN.{length};
 ghost use Rattle.crc.specs.Crc.{checksumOf};
-ghost use Rattle.packet.specs.Bytes.{wordAt, storedAt};
+ghost use Rattle.little_endian.specs.Bytes.{storedAt};
 ghost use Rattle.packet.specs.Packet.{coreLength, coreOf, carried, acknowledgementOf, inRow, commandOf, addressOf, rangeLengthOf, packetOf, written, writeOf};
 
 // The greatest core length.
@@ -23,29 +23,11 @@ pub enum Command {
     Unknown,
 }
 
-// The byte at a place, 0 past the end.
-fn byte_at(bytes: &[u8], at: usize) -> usize
-    ensures { λ r. ⌜ (r ≡ getD (now (bytes .entry)) at 0) × (r < 256) ⌝ }
-{
-    if at < bytes.len() {
-        return bytes[at] as usize;
-    }
-    0
-}
-
-// The number of the two bytes at a place, low byte first.
-fn word_at(bytes: &[u8], at: usize) -> usize
-    requires { ⌜ at < 131072 ⌝ }
-    ensures { λ r. ⌜ (r ≡ wordAt (now (bytes .entry)) at) × (r < 65536) ⌝ }
-{
-    byte_at(bytes, at) + 256 * byte_at(bytes, at + 1)
-}
-
 // The core length that a message states.
 pub fn core_length(message: &[u8]) -> usize
     ensures { λ r. ⌜ (r ≡ coreLength (now (message .entry))) × (r < 65536) ⌝ }
 {
-    word_at(message, 1)
+    little_endian::two_at(message, 1) as usize
 }
 
 // The core of a message, as far as the message goes.
@@ -70,7 +52,7 @@ fn sum_right(message: &[u8]) -> bool
 {
     let end = 3 + core_length(message);
     let sum = crc::checksum(&message[3..end]);
-    word_at(message, end) == sum as usize
+    little_endian::two_at(message, end) == sum
 }
 
 // The byte that answers a message: its first fault, or 0x00.
@@ -103,10 +85,10 @@ pub fn acknowledgement(message: &[u8]) -> u8
 }
 
 // Whether a core has a row's code, and a length from the row's least to its greatest.
-fn in_row(core: &[u8], code: usize, least: usize, greatest: usize) -> bool
+fn in_row(core: &[u8], code: u8, least: usize, greatest: usize) -> bool
     ensures { λ r. ⌜ r ≡ inRow (now (core .entry)) code least greatest ⌝ }
 {
-    if byte_at(core, 0) != code {
+    if little_endian::byte_at(core, 0) != code {
         return false;
     }
     if core.len() < least {
@@ -144,22 +126,14 @@ pub fn command_of(core: &[u8]) -> Command
 pub fn address(core: &[u8]) -> usize
     ensures { λ r. ⌜ (r ≡ addressOf (now (core .entry))) × (r < 4294967296) ⌝ }
 {
-    byte_at(core, 1) + 256 * (byte_at(core, 2) + 256 * (byte_at(core, 3) + 256 * byte_at(core, 4)))
+    little_endian::four_at(core, 1) as usize
 }
 
 // The length that a range checksum's core asks for.
 pub fn range_length(core: &[u8]) -> usize
     ensures { λ r. ⌜ (r ≡ rangeLengthOf (now (core .entry))) × (r < 65536) ⌝ }
 {
-    word_at(core, 5)
-}
-
-// New bytes stored from a place on.
-fn store(new: &[u8], at: usize, out: &mut [u8])
-    requires { ⌜ at + length (now new) ≤ length (now out) ⌝ }
-    ensures { λ _. ⌜ now (out .exit) ≡ storedAt at (now (new .entry)) (now (out .entry)) ⌝ }
-{
-    bytes::copy(new, &mut out[at..]);
+    little_endian::two_at(core, 5) as usize
 }
 
 // A packet around a core of at most 261 bytes, over the front of a buffer that has the room.
@@ -168,12 +142,10 @@ fn wrap(core: &[u8], out: &mut [u8])
     ensures { λ _. ⌜ now (out .exit) ≡ storedAt 0 (packetOf (now (core .entry))) (now (out .entry)) ⌝ }
 {
     let n = core.len();
-    let sum = crc::checksum(core);
-    let head = [0x80, (n % 256) as u8, (n / 256) as u8];
-    let tail = [(sum % 256) as u8, (sum / 256) as u8];
-    store(&head, 0, out);
-    store(core, 3, out);
-    store(&tail, 3 + n, out);
+    little_endian::store(&[0x80], 0, out);
+    little_endian::store_two(n as u16, 1, out);
+    little_endian::store(core, 3, out);
+    little_endian::store_two(crc::checksum(core), 3 + n, out);
 }
 
 // A packet around a core, over the front of a buffer. The answer is false, and the buffer as it

@@ -1,5 +1,6 @@
 // The lines of vectors: found, their bytes read, and each handed to the part of its kind.
 use crate::packets;
+use crate::records;
 use crate::show;
 ghost use Prim.Native.Nat.{_≤_};
 ghost use lib.ListN.{length};
@@ -71,6 +72,13 @@ fn vector(kind: u8, bytes: &[u8]) {
         b'c' => packets::checksum(bytes),
         b'm' => packets::message(bytes),
         b'w' => packets::written(bytes),
+        b't' => records::temperatures(bytes),
+        b'g' => records::greater(bytes),
+        b'p' => records::power(bytes),
+        b'r' => records::read(bytes),
+        b'v' => records::write(bytes),
+        b'z' => records::over_zeros(bytes),
+        b'f' => records::over_fullest(bytes),
         _ => show::text(b" no such kind"),
     }
 }

@@ -4,6 +4,7 @@
 // heading. After them come the checks that go through every core length and every bit of a packet.
 mod lines;
 mod packets;
+mod records;
 mod show;
 
 fn main() {

@@ -31,3 +31,21 @@ pub fn bytes(list: &[u8]) {
         byte(list[i]);
     }
 }
+
+pub fn numbers(list: &[u64]) {
+    for i in 0..list.len() {
+        text(b" ");
+        io::print_decimal(STDOUT_FILENO, list[i]);
+    }
+}
+
+// A temperature behind a space.
+pub fn degrees(t: i8) {
+    let b = temperature::to_byte(t);
+    if 0 <= t {
+        decimal(b as usize);
+        return;
+    }
+    text(b" -");
+    io::print_decimal(STDOUT_FILENO, 256 - b as u64);
+}

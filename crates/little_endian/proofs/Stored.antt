@@ -1,0 +1,77 @@
+-- Laws of bytes stored at a place: as a lent part comes back, and one store behind another.
+-- Assumes nothing.
+use mathlib.Core.Path.{_≡_, sym, ap, _∙_}
+use mathlib.Core.List.{List, [], _∷_, _++_, append-nil, append-assoc}
+use Prim.Native.Nat.{ℕ, _+_, _-_, _≤_, _<_}
+use native.Mathlib.Nat.{add-assoc, add-zero}
+use native.Mathlib.Omega.{arith}
+use borrow.Author.Tests.{le-leb, lt-leb}
+use lib.ListN.{length, take, drop, length-append, length-drop, drop-of-length-le, take-append-drop}
+use lib.Seq.{take-all, take-at, take-length, drop-drop, drop-append-add, length-take-le}
+use Rattle.little_endian.specs.Bytes.{storedAt}
+
+module _ (at : ℕ) (new old : List ℕ) (fits : at + length new ≤ length old) where
+  -- new bytes that fit stand between what was before them and what was behind
+  pub stored-between : storedAt at new old ≡ take at old ++ (new ++ drop (at + length new) old)
+  unfolding storedAt
+  stored-between = rw (le-leb (at + length new) (length old) fits)
+
+  -- the part from a place on, lent to a copier and come back
+  pub part-copied : take at old ++ ((take (length new) new ++ drop (length new) (take (length old - at) (drop at old))) ++ drop (length old - at) (drop at old))
+      ≡ storedAt at new old
+  part-copied =
+      let lent : take (length old - at) (drop at old) ≡ drop at old = take-all (length old - at) (drop at old) (rw length-drop (omega arith)) in
+      let past : drop (length old - at) (drop at old) ≡ [] = drop-of-length-le (drop at old) {i = length old - at} (rw length-drop (omega arith)) in
+      rw (past, lent, take-length, drop-drop, append-nil) (sym stored-between)
+
+  front-length : length (take at old ++ new) ≡ at + length new
+  front-length = length-append (take at old) new ∙ ap (λ (n : ℕ). n + length new) (length-take-le at old (omega arith))
+
+  pub stored-length : length (storedAt at new old) ≡ length old
+  stored-length =
+      ap length (stored-between ∙ sym (append-assoc (take at old) new (drop (at + length new) old)))
+      ∙ length-append (take at old ++ new) (drop (at + length new) old)
+      ∙ rw (front-length, length-drop) (omega arith)
+
+-- new bytes that do not fit are not stored
+pub stored-not : (at : ℕ) (new old : List ℕ) → length old < at + length new → storedAt at new old ≡ old
+unfolding storedAt
+stored-not at new old past = rw (lt-leb (at + length new) (length old) past)
+
+-- nothing stored at a place
+stored-nothing : (at : ℕ) (old : List ℕ) → at ≤ length old → storedAt at [] old ≡ old
+stored-nothing at old fits = stored-between at [] old (omega arith) ∙ rw add-zero (take-append-drop at old)
+
+-- bytes stored right behind others are stored with them
+pub stored-joined : (at : ℕ) (x y old : List ℕ) → at + (length x + length y) ≤ length old
+    → storedAt (at + length x) y (storedAt at x old) ≡ storedAt at (x ++ y) old
+stored-joined at x y old fits =
+    let first : at + length x ≤ length old = omega arith in
+    let second : at + length x + length y ≤ length (storedAt at x old) = rw (stored-length at x old first) (omega arith) in
+    let whole : at + length (x ++ y) ≤ length old = rw (length-append x y) fits in
+    let front = take at old ++ x in
+    let rest = drop (at + length x) old in
+    let before : take (at + length x) (front ++ rest) ≡ front = take-at front rest (at + length x) (front-length at x old first) in
+    let after : drop (at + length x + length y) (front ++ rest) ≡ drop (at + length (x ++ y)) old =
+    rw (← front-length at x old first, drop-append-add, drop-drop, front-length at x old first, length-append x y, add-assoc) in
+    stored-between (at + length x) y (storedAt at x old) second
+    ∙ rw (stored-between at x old first, stored-between at (x ++ y) old whole, ← append-assoc (take at old) x, before, after) (simp append-assoc)
+
+-- lists one behind the other
+abbrev pub joined : List (List ℕ) → List ℕ
+joined [] = []
+joined (x ∷ xs) = x ++ joined xs
+
+-- lists stored one after the other, each right behind the one before
+abbrev pub storedInTurn : ℕ → List (List ℕ) → List ℕ → List ℕ
+storedInTurn at [] old = old
+storedInTurn at (x ∷ xs) old = storedInTurn (at + length x) xs (storedAt at x old)
+
+-- storing them one after the other stores them all
+pub in-turn : (at : ℕ) (xs : List (List ℕ)) (old : List ℕ) → at + length (joined xs) ≤ length old
+    → storedInTurn at xs old ≡ storedAt at (joined xs) old
+in-turn at [] old fits = sym (stored-nothing at old (omega arith))
+in-turn at (x ∷ xs) old fits =
+    let room : at + (length x + length (joined xs)) ≤ length old = rw (← length-append x (joined xs)) fits in
+    in-turn (at + length x) xs (storedAt at x old) (rw (stored-length at x old (omega arith)) (omega arith))
+    ∙ stored-joined at x (joined xs) old room

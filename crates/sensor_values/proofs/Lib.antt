@@ -1,0 +1,4 @@
+pub mod Fields
+pub mod ValuesAgain
+pub mod BytesAgain
+pub mod Exactly

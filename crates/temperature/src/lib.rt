@@ -1,0 +1,33 @@
+// Temperatures: whole degrees from -128 to 127, which cross the bus as one byte, two's complement.
+// A byte is never used as a temperature, nor a temperature as a byte, but through these functions.
+ghost use mathlib.Core.Path.{_≡_};
+ghost use Rattle.temperature.specs.Temperature.{temperatureOf, byteOf, greaterOf};
+
+// The temperature that a byte carries.
+pub fn from_byte(b: u8) -> i8
+    ensures { λ r. ⌜ r ≡ temperatureOf b ⌝ }
+{
+    if b < 128 {
+        b as i8
+    } else {
+        (b as i16 - 256) as i8
+    }
+}
+
+// The byte that carries a temperature.
+pub fn to_byte(t: i8) -> u8
+    ensures { λ r. ⌜ r ≡ byteOf t ⌝ }
+{
+    if 0 <= t {
+        t as u8
+    } else {
+        (t as i16 + 256) as u8
+    }
+}
+
+// The greater of two temperatures.
+pub fn greater(a: i8, b: i8) -> i8
+    ensures { λ r. ⌜ r ≡ greaterOf a b ⌝ }
+{
+    if a < b { b } else { a }
+}
