@@ -15,8 +15,8 @@ ghost use lib.ListN.{length};
 ghost use Rattle.little_endian.specs.Bytes.{storedAt};
 ghost use Rattle.sensor_values.specs.Layout.{packed, statusBits, securityBits, deviceStatusBits, moduleStatusBits, inputBytes, sensorBytes, errorBytes, deviceBytes, moduleBytes, bytesOf};
 
-// Bit fields in one number, from bit 0 up. Each line is a field, and what stands above it times the
-// numbers that the field can hold.
+// Bit fields in one number. They are put together from the highest down, each below those before it,
+// so that `bit12` is what stands from bit 12 up.
 fn status_word(s: BoardStatus) -> u32
     ensures { λ r. ⌜ r ≡ packed (statusBits s) ⌝ }
 {
@@ -92,6 +92,7 @@ fn sensors(s: BoardSensors, out: &mut [u8])
     input(low, 10, out);
     input(main, 14, out);
     input(aux, 18, out);
+    // Watts on two bytes, low byte first.
     let watts_low = (s.total_power % 256) as u8;
     let watts_high = (s.total_power / 256 % 256) as u8;
     little_endian::store(&[watts_low, watts_high], 22, out);

@@ -77,8 +77,7 @@ fn vector(kind: u8, bytes: &[u8]) {
         b'p' => records::power(bytes),
         b'r' => records::read(bytes),
         b'v' => records::write(bytes),
-        b'z' => records::over_zeros(bytes),
-        b'f' => records::over_fullest(bytes),
+        b'b' => records::bit_map(bytes),
         _ => show::text(b" no such kind"),
     }
 }

@@ -15,74 +15,6 @@ use sensor_values::NetworkModule;
 use sensor_values::SecurityStatus;
 use sensor_values::SensorRecord;
 
-// The record with every field of the U30 at its greatest; a flash mode's greatest is 2.
-const FULLEST: [u8; 64] = [
-    0xFF,
-    0x00,
-    0xF8,
-    0x07,
-    0x5B,
-    0xFB,
-    0x00,
-    0x00,
-    0x7F,
-    0x7F,
-    0x00,
-    0x00,
-    0x00,
-    0x00,
-    0xFF,
-    0xFF,
-    0xFF,
-    0xFF,
-    0x00,
-    0x00,
-    0x00,
-    0x00,
-    0xFF,
-    0xFF,
-    0xF3,
-    0x7F,
-    0x00,
-    0xFF,
-    0xFF,
-    0xFF,
-    0xFF,
-    0xFF,
-    0xFF,
-    0xFF,
-    0xFF,
-    0xFF,
-    0xFF,
-    0xFF,
-    0x7F,
-    0x00,
-    0xFF,
-    0xFF,
-    0xFF,
-    0xFF,
-    0xFF,
-    0xFF,
-    0xFF,
-    0xFF,
-    0xFF,
-    0xFF,
-    0x00,
-    0x00,
-    0x00,
-    0x00,
-    0x00,
-    0x00,
-    0x00,
-    0x00,
-    0x00,
-    0x00,
-    0x00,
-    0x00,
-    0x00,
-    0x00,
-];
-
 // The temperatures that bytes carry.
 pub fn temperatures(bytes: &[u8]) {
     for i in 0..bytes.len() {
@@ -432,12 +364,11 @@ fn field_map(base: [u8; 64], bytes: &[u8]) {
     }
 }
 
-// Each bit of a field set in a record of zeros.
-pub fn over_zeros(bytes: &[u8]) {
-    field_map([0u8; 64], bytes);
-}
-
-// Each bit of a field set in the fullest record.
-pub fn over_fullest(bytes: &[u8]) {
-    field_map(FULLEST, bytes);
+// Each bit of a field set in the record that follows offset and length, or in zeros if none follows.
+pub fn bit_map(bytes: &[u8]) {
+    let mut base = [0u8; 64];
+    if 2 < bytes.len() {
+        little_endian::store(&bytes[2..], 0, &mut base);
+    }
+    field_map(base, bytes);
 }
