@@ -1,5 +1,6 @@
 -- `sensor_reader::input` meets its contract, by what its callees ensure.
 -- Assumes nothing.
+use mathlib.Core.Path.{refl}
 use Rattle.sensor_values.specs.Reading.{inputOf}
 use borrow.Author.Needs.{needs}
 use Rattle.sensor_reader.proofs.input.Statement.{statement}
@@ -16,7 +17,7 @@ two-at-requires-2 c κs = search needs
 
 returns : tie.Need-returns
 unfolding inputOf
-returns c = simp (c .before .two-at .ensures, c .two-at2 .ensures)
+returns c = simp (c .before .two-at .ensures, c .two-at2 .ensures) refl
 
 pub input-spec : {M : Type 1} → statement M
 input-spec = tie.close (tie.spec two-at-requires add-two-at two-at-requires-2 returns)

@@ -1,5 +1,6 @@
 -- `sensor_reader::reserved_zero` meets its contract, but for the order of its conjunctions.
 -- Assumes nothing.
+use mathlib.Core.Path.{refl}
 use mathlib.Core.Bool.{and-true, and-assoc}
 use Rattle.sensor_values.specs.Reading.{reservedZero}
 use borrow.Author.Needs.{needs}
@@ -26,16 +27,18 @@ four-at-requires-4 c κs = search needs
 
 returns : tie.Need-returns
 unfolding reservedZero
-returns c = simp (
-  c .before .before .before .before .before .four-at .ensures,
-  c .before .before .before .before .four-at2 .ensures,
-  c .before .before .before .two-at .ensures,
-  c .before .before .two-at2 .ensures,
-  c .before .four-at3 .ensures,
-  c .four-at4 .ensures,
-  and-assoc,
-  and-true,
-)
+returns c =
+    simp (
+      c .before .before .before .before .before .four-at .ensures,
+      c .before .before .before .before .four-at2 .ensures,
+      c .before .before .before .two-at .ensures,
+      c .before .before .two-at2 .ensures,
+      c .before .four-at3 .ensures,
+      c .four-at4 .ensures,
+      and-assoc,
+      and-true,
+    )
+    refl
 
 pub reserved-zero-spec : {M : Type 1} → statement M
 reserved-zero-spec =

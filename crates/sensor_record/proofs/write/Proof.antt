@@ -1,6 +1,6 @@
 -- `sensor_record::write` meets its contract, by what its callees ensure.
 -- Assumes nothing.
-use mathlib.Core.Path.{_≡_, sym, ap, _∙_}
+use mathlib.Core.Path.{_≡_, refl, sym, ap, _∙_}
 use mathlib.Core.Bool.{true, false}
 use mathlib.Core.List.{List}
 use Prim.Native.Nat.{ℕ}
@@ -14,7 +14,7 @@ use Rattle.sensor_record.proofs.write.Tie as tie
 
 returns : tie.Need-returns
 unfolding writeOf
-returns c = simp (lt-ltb _ _ (c .if1 .taken))
+returns c = simp (lt-ltb _ _ (c .if1 .taken)) refl
 
 sound-requires : tie.Need-sound-requires
 sound-requires c κs = search needs

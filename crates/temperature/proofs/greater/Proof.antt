@@ -4,14 +4,14 @@ use Rattle.temperature.proofs.greater.Statement.{statement}
 use Rattle.temperature.proofs.greater.Tie as tie
 use lib.Signed.{ltZ}
 use mathlib.Core.Bool.{true, false}
-use mathlib.Core.Path.{_≡_}
+use mathlib.Core.Path.{_≡_, refl}
 use mir.Facts.{toZ-ofZ}
 
 returns : tie.Need-returns
 returns c =
     let e : ltZ (c .before .args .a) (c .before .args .b) ≡ true
     = simp (toZ-ofZ (c .before .fits .a), toZ-ofZ (c .before .fits .b)) at (c .if1 .taken) in
-    simp (e, toZ-ofZ (c .before .fits .b))
+    simp (e, toZ-ofZ (c .before .fits .b)) refl
 
 returns-2 : tie.Need-returns-2
 returns-2 c =

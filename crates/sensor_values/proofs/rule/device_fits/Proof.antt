@@ -1,5 +1,6 @@
 -- `sensor_values::rule::device_fits` meets its contract: temperatures and error counters always fit.
 -- Assumes nothing.
+use mathlib.Core.Path.{refl}
 use mathlib.Core.Bool.{and-true, and-assoc}
 use Prim.Native.Nat.{_<_}
 use native.Mathlib.Omega.{arith}
@@ -26,6 +27,7 @@ returns c =
       and-assoc,
       and-true,
     )
+    refl
 
 pub device-fits-spec : {M : Type 1} → statement M
 device-fits-spec = tie.close (tie.spec returns)
