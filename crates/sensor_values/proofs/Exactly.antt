@@ -9,11 +9,11 @@ use borrow.Author.Tests.{eqb-true}
 use lib.Dec.{eqb}
 use lib.ListN.{length}
 use Rattle.little_endian.specs.Bytes.{Bytes}
+use Rattle.temperature.proofs.EveryByte.{both}
 use Rattle.sensor_values.specs.Layout.{bytesOf}
 use Rattle.sensor_values.specs.Rule.{fields, unused, sound}
 use Rattle.sensor_values.specs.Reading.{recordOf, reservedZero, soundBytes, IsRecord}
 use Rattle.sensor_values.specs.declared.SensorRecord.{SensorRecord}
-use Rattle.sensor_values.proofs.Fields.{both}
 use Rattle.sensor_values.proofs.ValuesAgain.{values-again, reserved-clear, bytes-length}
 use Rattle.sensor_values.proofs.BytesAgain.{record-again}
 

@@ -1,7 +1,7 @@
 -- Laws of bit fields, once for every list of them: what is packed is read back, and what is read packs again.
 -- Assumes nothing.
 use mathlib.Core.Path.{_≡_, refl, sym, _∙_}
-use mathlib.Core.Bool.{Bool, true, false, _&&_, false≢true}
+use mathlib.Core.Bool.{Bool, true, _&&_}
 use mathlib.Core.List.{List, [], _∷_}
 use Prim.Native.Nat.{ℕ, zero, suc, _+_, _*_, _/_, _%_, _^_, _<_}
 use native.Mathlib.Nat.{div-one, mod-one, add-mul-mod-self-left, mod-eq-of-lt, add-mul-div-left, div-eq-of-lt, zero-add, mul-comm, add-comm}
@@ -10,13 +10,9 @@ use borrow.Author.Tests.{ltb-true, eqb-true}
 use lib.Arith.{digits-lt}
 use lib.Dec.{ltb, eqb}
 use lib.Pow.{pow-pos, pow-add, shr-shr, mod-pow-add}
+use Rattle.temperature.proofs.EveryByte.{both}
 use Rattle.sensor_values.specs.Layout.{BitField, packed}
 use Rattle.sensor_values.specs.Rule.{fitting, zeros}
-
--- both tests of a conjunction hold
-pub both : (a b : Bool) → a && b ≡ true → (a ≡ true) × (b ≡ true)
-both true b e = (refl, e)
-both false b e = absurd (false≢true e)
 
 -- every test of a list holds
 abbrev pub All : List Bool → Type 0
