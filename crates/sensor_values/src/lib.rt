@@ -84,7 +84,8 @@ pub struct Device {
     pub errors: ErrorCounters,
 }
 
-// A network module's status; two bits for the two lanes of rx_loss, tx_disable and tx_fault, four of rate_select.
+// A network module's status: two bits of rx_loss, tx_disable and tx_fault, four of rate_select, one of
+// each other.
 pub struct ModuleStatus {
     pub present: u8,
     pub interrupt: u8,

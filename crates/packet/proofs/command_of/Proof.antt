@@ -1,6 +1,6 @@
 -- `packet::command_of` meets its contract: each test is the row of its line in the table.
 -- Assumes nothing.
-use mathlib.Core.Path.{sym, _∙_}
+use mathlib.Core.Path.{refl, sym, _∙_}
 use Rattle.packet.specs.Packet.{commandOf}
 use borrow.Author.Needs.{needs}
 use Rattle.packet.proofs.command_of.Statement.{statement}
@@ -36,6 +36,7 @@ returns-3 c =
       sym (c .before .before .before .in-row2 .ensures) ∙ c .before .before .if2 .left,
       sym (c .before .in-row3 .ensures) ∙ c .if3 .taken,
     )
+    refl
 
 in-row-requires-4 : tie.Need-in-row-requires-4
 in-row-requires-4 c κs = search needs

@@ -1,5 +1,6 @@
 -- `refusal::number` meets its contract, case by case.
 -- Assumes nothing.
+use mathlib.Core.Path.{refl}
 use borrow.Author.Needs.{needs}
 use Rattle.refusal.proofs.number.Statement.{statement}
 use Rattle.refusal.proofs.number.Tie as tie
@@ -92,7 +93,7 @@ returns-11 : tie.Need-returns-11
 returns-11 c = rw (c .enum-told11 .given .1)
 
 returns-12 : tie.Need-returns-12
-returns-12 c = rw (c .enum-told12 .given .1)
+returns-12 c = rw (c .enum-told12 .given .1) refl
 
 returns-13 : tie.Need-returns-13
 returns-13 c = rw (c .enum-told13 .given .1)

@@ -40,9 +40,10 @@ same-length c = search needs
 returns-3 : tie.Need-returns-3
 unfolding writeOf
 returns-3 c =
-    let kept : sound (c .before .before .before .before .before .before .before .before .before .before .args .values) ≡ true = sym (c .before .before .before .before .before .before .before .sound .ensures) ∙ not-false _ (c .before .before .before .before .before .before .if2 .left) in
+    let start = c .before .before .before .before .before .before .before .before .before .before in
+    let kept : sound (start .args .values) ≡ true = sym (c .before .before .before .before .before .before .before .sound .ensures) ∙ not-false _ (c .before .before .before .before .before .before .if2 .left) in
     simp (le-ltb _ _ (c .before .before .before .before .before .before .before .before .if1 .left), kept)
-    (ap (output 0) (c .before .before .store .ensures ∙ ap (λ (l : List ℕ). storedAt 0 l (c .before .before .before .before .before .before .before .before .before .before .args .out .now)) (c .before .before .before .before .before .bytes .ensures)))
+    (ap (output 0) (c .before .before .store .ensures ∙ ap (λ (l : List ℕ). storedAt 0 l (start .args .out .now)) (c .before .before .before .before .before .bytes .ensures)))
 
 pub write-spec : {M : Type 1} → statement M
 write-spec =

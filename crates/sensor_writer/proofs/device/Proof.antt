@@ -44,10 +44,11 @@ same-length c = search needs
 returns : tie.Need-returns
 unfolding deviceBytes errorBytes
 returns c =
-    let a = c .before .before .before .before .before .before .before .before .before .before .before .before .before .before .before .before .before .args in
+    let start = c .before .before .before .before .before .before .before .before .before .before .before .before .before .before .before .before .before in
+    let a = start .args in
     let d = a .d in
-    let fpga : mag (d .«fpga_temperature») < 128 = omega (arith, c .before .before .before .before .before .before .before .before .before .before .before .before .before .before .before .before .before .good) in
-    let hbm : mag (d .«hbm_temperature») < 128 = omega (arith, c .before .before .before .before .before .before .before .before .before .before .before .before .before .before .before .before .before .good) in
+    let fpga : mag (d .«fpga_temperature») < 128 = omega (arith, start .good) in
+    let hbm : mag (d .«hbm_temperature») < 128 = omega (arith, start .good) in
     let front : List ℕ = littleEndian 1 (packed (deviceStatusBits (d .status))) ++ (byteOf (d .«fpga_temperature») ∷ byteOf (d .«hbm_temperature») ∷ []) in
     c .before .before .errors .ensures
     ∙ ap (storedAt (a .at + 3) (errorBytes (d .errors)))
@@ -59,7 +60,7 @@ returns c =
       machine-again (d .«fpga_temperature») fpga,
       machine-again (d .«hbm_temperature») hbm,
     ))
-    ∙ in-turn (a .at) (front ∷ errorBytes (d .errors) ∷ []) (a .out .now) (c .before .before .before .before .before .before .before .before .before .before .before .before .before .before .before .before .before .pre)
+    ∙ in-turn (a .at) (front ∷ errorBytes (d .errors) ∷ []) (a .out .now) (start .pre)
 
 pub device-spec : {M : Type 1} → statement M
 device-spec =

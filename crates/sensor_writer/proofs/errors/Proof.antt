@@ -38,7 +38,8 @@ same-length c = search needs
 returns : tie.Need-returns
 unfolding errorBytes
 returns c =
-    let a = c .before .before .before .before .before .before .before .before .before .before .before .before .before .before .before .before .before .args in
+    let start = c .before .before .before .before .before .before .before .before .before .before .before .before .before .before .before .before .before in
+    let a = start .args in
     let e = a .e in
     let third : a .at + 4 ≡ a .at + 2 + 2 = omega arith in
     let fourth : a .at + 6 ≡ a .at + 2 + 2 + 2 = omega arith in
@@ -52,7 +53,7 @@ returns c =
     (in-turn (a .at)
     (littleEndian 2 (e .«ddr_uncorrectable») ∷ littleEndian 2 (e .«ddr_correctable»)
     ∷ littleEndian 2 (e .«pcie_uncorrectable») ∷ littleEndian 4 (e .«pcie_correctable») ∷ [])
-    (a .out .now) (c .before .before .before .before .before .before .before .before .before .before .before .before .before .before .before .before .before .pre))
+    (a .out .now) (start .pre))
 
 pub errors-spec : {M : Type 1} → statement M
 errors-spec =

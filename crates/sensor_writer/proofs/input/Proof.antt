@@ -25,12 +25,13 @@ same-length c = search needs
 returns : tie.Need-returns
 unfolding inputBytes
 returns c =
-    let a = c .before .before .before .before .before .before .before .before .before .args in
+    let start = c .before .before .before .before .before .before .before .before .before in
+    let a = start .args in
     let current = littleEndian 2 (a .i .current) in
     let voltage = littleEndian 2 (a .i .voltage) in
     c .before .before .store-two2 .ensures
     ∙ ap (storedAt (a .at + 2) voltage) (c .before .before .before .before .before .before .store-two .ensures)
-    ∙ in-turn (a .at) (current ∷ voltage ∷ []) (a .out .now) (c .before .before .before .before .before .before .before .before .before .pre)
+    ∙ in-turn (a .at) (current ∷ voltage ∷ []) (a .out .now) (start .pre)
 
 pub input-spec : {M : Type 1} → statement M
 input-spec =

@@ -50,14 +50,15 @@ same-length c = search needs
 returns : tie.Need-returns
 unfolding moduleBytes
 returns c =
-    let a = c .before .before .before .before .before .before .before .before .before .before .before .before .before .before .args in
+    let start = c .before .before .before .before .before .before .before .before .before .before .before .before .before .before in
+    let a = start .args in
     let m = a .m in
-    let warm : mag (m .temperature) < 128 = omega (arith, c .before .before .before .before .before .before .before .before .before .before .before .before .before .before .good) in
+    let warm : mag (m .temperature) < 128 = omega (arith, start .good) in
     let status = littleEndian 2 (packed (moduleStatusBits (m .status))) in
     c .before .before .store-two .ensures
     ∙ ap (λ (l : List ℕ). storedAt (a .at + 1) l (c .before .before .before .before .before .before .before .store .last .1 .1 .0)) (low-two (c .before .before .before .before .module-status-word .result) ∙ ap (littleEndian 2) (c .before .before .before .before .module-status-word .ensures))
     ∙ ap (storedAt (a .at + 1) status) (c .before .before .before .before .before .before .before .store .ensures ∙ ap (λ (t : ℕ). storedAt (a .at) (t ∷ []) (a .out .now)) (c .before .before .before .before .before .before .before .before .before .before .to-byte .ensures ∙ ap byteOf (machine-again (m .temperature) warm)))
-    ∙ in-turn (a .at) ((byteOf (m .temperature) ∷ []) ∷ status ∷ []) (a .out .now) (c .before .before .before .before .before .before .before .before .before .before .before .before .before .before .pre)
+    ∙ in-turn (a .at) ((byteOf (m .temperature) ∷ []) ∷ status ∷ []) (a .out .now) (start .pre)
 
 pub module-spec : {M : Type 1} → statement M
 module-spec =

@@ -53,10 +53,11 @@ same-length c = search needs
 returns : tie.Need-returns
 unfolding sensorBytes inputBytes
 returns c =
-    let s = c .before .before .before .before .before .before .before .before .before .before .before .before .before .before .before .before .before .before .before .before .before .before .before .before .before .before .before .before .before .before .before .before .args .s in
-    let out = c .before .before .before .before .before .before .before .before .before .before .before .before .before .before .before .before .before .before .before .before .before .before .before .before .before .before .before .before .before .before .before .before .args .out .now in
-    let inlet : mag (s .inlet) < 128 = omega (arith, c .before .before .before .before .before .before .before .before .before .before .before .before .before .before .before .before .before .before .before .before .before .before .before .before .before .before .before .before .before .before .before .before .good) in
-    let outlet : mag (s .outlet) < 128 = omega (arith, c .before .before .before .before .before .before .before .before .before .before .before .before .before .before .before .before .before .before .before .before .before .before .before .before .before .before .before .before .before .before .before .before .good) in
+    let start = c .before .before .before .before .before .before .before .before .before .before .before .before .before .before .before .before .before .before .before .before .before .before .before .before .before .before .before .before .before .before .before .before in
+    let s = start .args .s in
+    let out = start .args .out .now in
+    let inlet : mag (s .inlet) < 128 = omega (arith, start .good) in
+    let outlet : mag (s .outlet) < 128 = omega (arith, start .good) in
     let temperatures : List ℕ = byteOf (s .inlet) ∷ byteOf (s .outlet) ∷ [] in
     let low = inputBytes (s .«input_3v3») in
     let main = inputBytes (s .«input_12v») in
@@ -69,7 +70,7 @@ returns c =
     ∙ ap (storedAt 22 power)
     (c .before .before .before .before .before .before .before .before .before .input3 .ensures
     ∙ ap (storedAt 18 aux) (c .before .before .before .before .before .before .before .before .before .before .before .before .before .input2 .ensures ∙ ap (storedAt 14 main) (c .before .before .before .before .before .before .before .before .before .before .before .before .before .before .before .before .before .input .ensures ∙ ap (storedAt 10 low) first)))
-    ∙ in-turn 8 (temperatures ∷ low ∷ main ∷ aux ∷ power ∷ []) out (c .before .before .before .before .before .before .before .before .before .before .before .before .before .before .before .before .before .before .before .before .before .before .before .before .before .before .before .before .before .before .before .before .pre)
+    ∙ in-turn 8 (temperatures ∷ low ∷ main ∷ aux ∷ power ∷ []) out (start .pre)
 
 pub sensors-spec : {M : Type 1} → statement M
 sensors-spec =

@@ -13,8 +13,9 @@ use Rattle.sensor_values.proofs.rule.device_fits.Tie as tie
 returns : tie.Need-returns
 unfolding deviceFits errorsFit
 returns c =
-    let d = c .before .before .before .before .before .before .args .d in
-    let good = c .before .before .before .before .before .before .good in
+    let start = c .before .before .before .before .before .before in
+    let d = start .args .d in
+    let good = start .good in
     let fpga : mag (d .«fpga_temperature») < 128 = omega (arith, good) in
     let hbm : mag (d .«hbm_temperature») < 128 = omega (arith, good) in
     simp (

@@ -31,8 +31,9 @@ module-fits-requires-2 c κs = search needs
 returns : tie.Need-returns
 unfolding fields inputFits sensorsFit
 returns c =
-    let good = c .before .before .before .before .before .before .before .before .before .before .before .before .good .0 .1 .1 .1 .1 .0 in
-    let s = c .before .before .before .before .before .before .before .before .before .before .before .before .args .values .sensors in
+    let start = c .before .before .before .before .before .before .before .before .before .before .before .before in
+    let good = start .good .0 .1 .1 .1 .1 .0 in
+    let s = start .args .values .sensors in
     let inlet : mag (s .inlet) < 128 = omega (arith, good) in
     let outlet : mag (s .outlet) < 128 = omega (arith, good) in
     simp (

@@ -12,8 +12,9 @@ use Rattle.sensor_values.proofs.rule.module_fits.Tie as tie
 returns : tie.Need-returns
 unfolding moduleFits
 returns c =
-    let m = c .before .before .before .before .before .before .before .before .before .before .args .m in
-    let t : mag (m .temperature) < 128 = omega (arith, c .before .before .before .before .before .before .before .before .before .before .good) in
+    let start = c .before .before .before .before .before .before .before .before .before .before in
+    let m = start .args .m in
+    let t : mag (m .temperature) < 128 = omega (arith, start .good) in
     simp (lt-ltb (mag (m .temperature)) 128 t, and-assoc, and-true)
 
 pub module-fits-spec : {M : Type 1} → statement M
