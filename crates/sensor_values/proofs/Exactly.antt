@@ -9,7 +9,7 @@ use borrow.Author.Tests.{eqb-true}
 use lib.Dec.{eqb}
 use lib.ListN.{length}
 use Rattle.little_endian.specs.Bytes.{Bytes}
-use Rattle.temperature.proofs.EveryByte.{both}
+use Rattle.test_laws.proofs.Tests.{both}
 use Rattle.sensor_values.specs.Layout.{bytesOf}
 use Rattle.sensor_values.specs.Rule.{fields, unused, sound}
 use Rattle.sensor_values.specs.Reading.{recordOf, reservedZero, soundBytes, IsRecord}

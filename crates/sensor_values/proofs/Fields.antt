@@ -10,7 +10,7 @@ use borrow.Author.Tests.{ltb-true, eqb-true}
 use lib.Arith.{digits-lt}
 use lib.Dec.{ltb, eqb}
 use lib.Pow.{pow-pos, pow-add, shr-shr, mod-pow-add}
-use Rattle.temperature.proofs.EveryByte.{both}
+use Rattle.test_laws.proofs.Tests.{both}
 use Rattle.sensor_values.specs.Layout.{BitField, packed}
 use Rattle.sensor_values.specs.Rule.{fitting, zeros}
 

@@ -10,7 +10,8 @@ use mir.Syntax.{w8}
 use mir.Facts.{toZ-ofZ}
 use mir.Val.{toZ, ofZ}
 use Rattle.temperature.specs.Temperature.{temperatureOf, byteOf}
-use Rattle.temperature.proofs.EveryByte.{below, every-temperature, sameZ, same-z}
+use Rattle.test_laws.proofs.Tests.{below}
+use Rattle.temperature.proofs.EveryByte.{every-temperature, sameZ, same-z}
 
 -- the machine's own reading of eight bits as a signed number is the temperature
 pub machine : (b : ℕ) → b < 256 → toZ w8 b ≡ temperatureOf b

@@ -5,7 +5,6 @@
 mod lines;
 mod packets;
 mod records;
-mod show;
 
 fn main() {
     let mut input = io::large_buffer();

@@ -1,6 +1,6 @@
 // Checksums, messages judged and packets written.
-use crate::show;
 use packet::Command;
+use vector_lines::show;
 
 // The checksum of a core.
 pub fn checksum(core: &[u8]) {

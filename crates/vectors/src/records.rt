@@ -1,5 +1,5 @@
 // The sensor record, temperatures and total power.
-use crate::show;
+use libc::STDOUT_FILENO;
 use refusal::Refusal;
 use sensor_record::ReadRecord;
 use sensor_record::WroteRecord;
@@ -14,11 +14,23 @@ use sensor_values::ModuleStatus;
 use sensor_values::NetworkModule;
 use sensor_values::SecurityStatus;
 use sensor_values::SensorRecord;
+use vector_lines::show;
+
+// A temperature behind a space.
+fn degrees(t: i8) {
+    let b = temperature::to_byte(t);
+    if 0 <= t {
+        show::decimal(b as usize);
+        return;
+    }
+    show::text(b" -");
+    io::print_decimal(STDOUT_FILENO, 256 - b as u64);
+}
 
 // The temperatures that bytes carry.
 pub fn temperatures(bytes: &[u8]) {
     for i in 0..bytes.len() {
-        show::degrees(temperature::from_byte(bytes[i]));
+        degrees(temperature::from_byte(bytes[i]));
     }
 }
 
@@ -26,7 +38,7 @@ pub fn temperatures(bytes: &[u8]) {
 pub fn greater(bytes: &[u8]) {
     let first = temperature::from_byte(little_endian::byte_at(bytes, 0));
     let second = temperature::from_byte(little_endian::byte_at(bytes, 1));
-    show::degrees(temperature::greater(first, second));
+    degrees(temperature::greater(first, second));
 }
 
 // Total power from raw volts and raw amps.
@@ -82,8 +94,8 @@ fn sensors(s: BoardSensors) {
     let main = s.input_12v;
     let aux = s.input_aux;
     show::text(b", sensors");
-    show::degrees(s.inlet);
-    show::degrees(s.outlet);
+    degrees(s.inlet);
+    degrees(s.outlet);
     show::numbers(
         &[
             low.current as u64,
@@ -110,8 +122,8 @@ fn device(d: Device) {
             s.keep_alive as u64,
         ],
     );
-    show::degrees(d.fpga_temperature);
-    show::degrees(d.hbm_temperature);
+    degrees(d.fpga_temperature);
+    degrees(d.hbm_temperature);
     show::numbers(
         &[
             e.ddr_uncorrectable as u64,
@@ -125,7 +137,7 @@ fn device(d: Device) {
 fn module(m: NetworkModule) {
     let s = m.status;
     show::text(b", module");
-    show::degrees(m.temperature);
+    degrees(m.temperature);
     show::numbers(
         &[
             s.present as u64,
@@ -280,23 +292,13 @@ fn made(v: [u8; 28]) -> SensorRecord {
     }
 }
 
-// Whether every byte is still ee.
-fn untouched(out: &[u8]) -> bool {
-    for i in 0..out.len() {
-        if out[i] != 0xEE {
-            return false;
-        }
-    }
-    true
-}
-
 // A record written over bytes ee, and the output then.
 fn write_over(values: SensorRecord, out: &mut [u8]) {
     match sensor_record::write(values, out) {
         WroteRecord::Refused(why) => refused(why),
         WroteRecord::Written => show::text(b" written"),
     }
-    if untouched(out) {
+    if vector_lines::every(out, 0xEE) {
         show::text(b", output as it was");
         return;
     }

@@ -11,7 +11,8 @@ use lib.Signed.{mag}
 use mir.Syntax.{w8, w16}
 use mir.Val.{toZ, ofZ}
 use Rattle.temperature.specs.Temperature.{temperatureOf}
-use Rattle.temperature.proofs.EveryByte.{everyBelow, below, there, sameZ, same-z}
+use Rattle.test_laws.proofs.Tests.{everyBelow, below, there}
+use Rattle.temperature.proofs.EveryByte.{sameZ, same-z}
 use Rattle.temperature.proofs.Laws.{machine}
 use Rattle.temperature.proofs.from_byte.Statement.{statement}
 use Rattle.temperature.proofs.from_byte.Tie as tie

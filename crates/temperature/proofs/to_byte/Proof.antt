@@ -11,7 +11,8 @@ use mir.Facts.{toZ-ofZ}
 use mir.Syntax.{w8, w16}
 use mir.Val.{SFits, Fits, toZ, ofZ}
 use Rattle.temperature.specs.Temperature.{byteOf}
-use Rattle.temperature.proofs.EveryByte.{every-temperature, there, sameZ, same-z}
+use Rattle.test_laws.proofs.Tests.{there}
+use Rattle.temperature.proofs.EveryByte.{every-temperature, sameZ, same-z}
 use Rattle.temperature.proofs.Laws.{byte-lt}
 use Rattle.temperature.proofs.to_byte.Statement.{statement}
 use Rattle.temperature.proofs.to_byte.Tie as tie

@@ -1,0 +1,2 @@
+pub mod Sames
+pub mod Sizes

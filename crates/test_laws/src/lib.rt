@@ -1,0 +1,2 @@
+// Laws of tests, for proofs: a conjunction's two tests, and a test that is computed at every number
+// below a bound. It has no function.

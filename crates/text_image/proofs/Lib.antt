@@ -1,0 +1,4 @@
+pub mod Parts
+pub mod Sounds
+pub mod Pictures
+pub mod Walks

@@ -1,0 +1,3 @@
+pub mod Rules
+pub mod Picture
+pub mod Walk

@@ -1,0 +1,4 @@
+pub mod Compare
+pub mod BlockParts
+pub mod Outcomes
+pub mod Means

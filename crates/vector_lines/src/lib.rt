@@ -1,0 +1,152 @@
+// What the programs have in common: lines and their labels found, numbers and bytes read from
+// words, room for a firmware text and a region, and answers printed (`show`). None of these
+// functions asks anything of its input.
+pub mod show;
+
+ghost use mathlib.Core.Path.{_≡_};
+ghost use Prim.Native.Nat.{_-_, _≤_};
+ghost use lib.ListN.{length};
+
+// A decimal number, and the place behind its digits.
+pub struct Number {
+    pub value: usize,
+    pub past: usize,
+}
+
+// Room for a firmware text one byte longer than any that is read, so that a longer one is seen.
+pub fn text_room() -> [u8; 1048577]
+    ensures { λ r. ⌜ 1048577 ≡ length r ⌝ }
+{
+    [0; 1048577]
+}
+
+// Room for a region one step longer than the longest, so that its size too can be asked for.
+pub fn region_room() -> [u8; 266240]
+    ensures { λ r. ⌜ 266240 ≡ length r ⌝ }
+{
+    [0; 266240]
+}
+
+// The place of the first such byte, or the end.
+pub fn find(text: &[u8], wanted: u8) -> usize
+    ensures { λ r. ⌜ r ≤ length (now (text .entry)) ⌝ }
+{
+    let mut i = 0;
+    while i < text.len() {
+        if text[i] == wanted {
+            return i;
+        }
+        i += 1;
+    }
+    i
+}
+
+// Whether every byte is the value.
+pub fn every(bytes: &[u8], value: u8) -> bool {
+    for i in 0..bytes.len() {
+        if bytes[i] != value {
+            return false;
+        }
+    }
+    true
+}
+
+// What stands from a place on, nothing if the place is past the end.
+pub fn behind(words: &[u8], at: usize) -> &[u8]
+    ensures { λ r. ⌜ length (now r) ≤ length (now (words .entry)) - at ⌝ }
+{
+    if words.len() <= at {
+        return &words[words.len()..];
+    }
+    &words[at..]
+}
+
+// The line from a place on, without its end.
+pub fn line_at(text: &[u8], at: usize) -> &[u8]
+    ensures { λ r. ⌜ length (now r) ≤ length (now (text .entry)) - at ⌝ }
+{
+    let rest = behind(text, at);
+    let end = find(rest, b'\n');
+    &rest[..end]
+}
+
+// Prints the label of a line, and hands back what stands behind its colon and a space. A line
+// without these is a heading, and nothing stands behind it.
+pub fn label(line: &[u8]) -> &[u8] {
+    let colon = find(line, b':');
+    show::text(&line[..colon]);
+    let rest = behind(line, colon);
+    let words = behind(rest, 2);
+    if 0 < words.len() {
+        show::text(b":");
+    }
+    words
+}
+
+// The value of a hexadecimal digit, 16 for any other byte.
+fn digit(b: u8) -> u8 {
+    match b {
+        b'0'..=b'9' => b - b'0',
+        b'a'..=b'f' => b - b'a' + 10,
+        b'A'..=b'F' => b - b'A' + 10,
+        _ => 16,
+    }
+}
+
+// The decimal number that words begin with, 0 if none. It ends before its value would need more
+// than nine digits.
+pub fn number_of(words: &[u8]) -> Number
+    ensures { λ r. ⌜ r .past ≤ length (now (words .entry)) ⌝ }
+{
+    let mut value: usize = 0;
+    let mut past = 0;
+    while past < words.len() {
+        let next = digit(words[past]);
+        if 9 < next {
+            return Number { value, past };
+        }
+        if 99999999 < value {
+            return Number { value, past };
+        }
+        value = value * 10 + next as usize;
+        past += 1;
+    }
+    Number { value, past }
+}
+
+// The byte of a space and two digits, 256 for any other three.
+fn pair(space: u8, first: u8, second: u8) -> u16 {
+    let high = digit(first);
+    let low = digit(second);
+    if space != b' ' {
+        return 256;
+    }
+    if 15 < high {
+        return 256;
+    }
+    if 15 < low {
+        return 256;
+    }
+    (high * 16 + low) as u16
+}
+
+// The bytes of a list of two digits each, a space before each. The answer is how many were read up
+// to the list's end, the first that is none, or the end of the room.
+pub fn bytes_of(words: &[u8], out: &mut [u8]) -> usize
+    ensures { λ r. ⌜ r ≤ length (now (out .exit)) ⌝ }
+{
+    let n = words.len() / 3;
+    let mut i = 0;
+    while i < n {
+        let value = pair(words[3 * i], words[3 * i + 1], words[3 * i + 2]);
+        if 255 < value {
+            return i;
+        }
+        if out.len() <= i {
+            return i;
+        }
+        out[i] = value as u8;
+        i += 1;
+    }
+    i
+}
