@@ -15,7 +15,8 @@ use Rattle.firmware_text.specs.Digit.{digit, isHex, IsHex}
 use Rattle.firmware_text.specs.Image.{Image, broken}
 use Rattle.firmware_text.specs.Machine.{State, Line, Move, start, line, full, gap, step, atEnd, begins, ends, ended, given, readFrom}
 use Rattle.firmware_text.proofs.Steps.{step-other, step-begins, read-to}
-use Rattle.text_cursor.specs.Walk.{from, near, lineState, stopState, restAt, endFrom, behind, Beyond, aheadImage, Reached, Further, Tells}
+use Rattle.text_cursor.specs.Walk.{from, near, lineState, stopState, restAt, Further, Tells}
+use Rattle.text_cursor.specs.Parts.{endFrom, behind, Beyond, aheadImage, Reached}
 use Rattle.text_cursor.specs.declared.Ahead.{Ahead}
 use Rattle.text_cursor.specs.declared.Ahead.the-variants as ahead
 use Rattle.text_cursor.specs.declared.LineEnd.{LineEnd}

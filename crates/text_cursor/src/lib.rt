@@ -7,7 +7,8 @@ ghost use Prim.Native.Nat.{ℕ, _+_, _^_, _<_, _≤_};
 ghost use lib.ListN.{drop, length, getD};
 ghost use Rattle.firmware_text.specs.Digit.{IsHex};
 ghost use Rattle.firmware_text.specs.Machine.{Line, sign, half, full, gap, quit, within};
-ghost use Rattle.text_cursor.specs.Walk.{from, near, lineState, stopState, rest, beginning, Tells, Numbered, endFrom, behind, Beyond, aheadImage, Reached};
+ghost use Rattle.text_cursor.specs.Walk.{from, near, lineState, stopState, rest, beginning, Tells};
+ghost use Rattle.text_cursor.specs.Parts.{Numbered, endFrom, behind, Beyond, aheadImage, Reached};
 
 // The pairs of a cursor at the start of a text, one more than a line can have.
 const START: u64 = 17;

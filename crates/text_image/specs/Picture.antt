@@ -13,7 +13,7 @@ placed (byte p a v i) region = placed i (set region a v)
 placed end region = region
 placed (broken p) region = region
 
--- the picture: n bytes, those of the image at their addresses, 0xFF elsewhere
+-- the picture, as document 01 defines it: n bytes, those of the image at their addresses, 0xFF elsewhere
 unfoldable pub pictureOf : ℕ → Image → List ℕ
 pictureOf n i = placed i (replicate n 0xFF)
 

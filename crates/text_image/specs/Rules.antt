@@ -51,7 +51,7 @@ unless number (at place) next = refused number place
 abbrev pub longest : ℕ
 longest = 1048576
 
--- the rules of an image's text, each over the whole text before the next: 3, 4, 5
+-- the rules of an image's text, each over the whole text before the next: 3, 4, 5 (`Meaning` of `firmware_text` says what `faultOf` and `imageOf` have to do with the grammar)
 unfoldable pub imageRules : ℕ → Image → Judgement
 imageRules n i = unless 3 (faultOf i) (unless 4 (outsideOf n i) (unless 5 (repeatedOf [] i) sound))
 
@@ -61,7 +61,7 @@ rulesOf text n =
     cond (goodSize n) (cond (ltb longest (length text)) (refused 18 0) (imageRules n (imageOf text)))
     (refused 1 0)
 
--- the text is sound
+-- the text is sound: document 01's word for a text that meets none of these refusals
 abbrev pub isSound : Judgement → Bool
 isSound sound = true
 isSound (refused number place) = false

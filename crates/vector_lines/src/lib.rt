@@ -3,6 +3,7 @@
 // functions asks anything of its input.
 pub mod show;
 
+use firmware_text::digit_of;
 ghost use mathlib.Core.Path.{_≡_};
 ghost use Prim.Native.Nat.{_-_, _≤_};
 ghost use lib.ListN.{length};
@@ -83,16 +84,6 @@ pub fn label(line: &[u8]) -> &[u8] {
     words
 }
 
-// The value of a hexadecimal digit, 16 for any other byte.
-fn digit(b: u8) -> u8 {
-    match b {
-        b'0'..=b'9' => b - b'0',
-        b'a'..=b'f' => b - b'a' + 10,
-        b'A'..=b'F' => b - b'A' + 10,
-        _ => 16,
-    }
-}
-
 // The decimal number that words begin with, 0 if none. It ends before its value would need more
 // than nine digits.
 pub fn number_of(words: &[u8]) -> Number
@@ -101,7 +92,7 @@ pub fn number_of(words: &[u8]) -> Number
     let mut value: usize = 0;
     let mut past = 0;
     while past < words.len() {
-        let next = digit(words[past]);
+        let next = digit_of(words[past]);
         if 9 < next {
             return Number { value, past };
         }
@@ -116,8 +107,8 @@ pub fn number_of(words: &[u8]) -> Number
 
 // The byte of a space and two digits, 256 for any other three.
 fn pair(space: u8, first: u8, second: u8) -> u16 {
-    let high = digit(first);
-    let low = digit(second);
+    let high = digit_of(first);
+    let low = digit_of(second);
     if space != b' ' {
         return 256;
     }
