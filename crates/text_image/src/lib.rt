@@ -34,6 +34,16 @@ enum Found {
     Outside(usize),
 }
 
+// The verdict of a refusal at a place.
+pub fn refuse(why: Refusal, place: usize) -> Verdict
+    ensures { λ r. ⌜ r ≡ Verdict.Refused why place ⌝ }
+{
+    Verdict::Refused {
+        refusal: why,
+        place: place,
+    }
+}
+
 // What is found with one byte more.
 fn note(found: Found, inside: bool, again: bool, place: usize) -> Found
     ensures { λ r. ⌜ r ≡ noted found inside again place ⌝ }
@@ -64,14 +74,8 @@ fn conclude(found: Found) -> Verdict
 {
     match found {
         Found::Nothing => Verdict::Sound,
-        Found::Repeated(place) => Verdict::Refused {
-            refusal: Refusal::AddressRepeated,
-            place: place,
-        },
-        Found::Outside(place) => Verdict::Refused {
-            refusal: Refusal::AddressOutside,
-            place: place,
-        },
+        Found::Repeated(place) => refuse(Refusal::AddressRepeated, place),
+        Found::Outside(place) => refuse(Refusal::AddressOutside, place),
     }
 }
 
@@ -117,15 +121,8 @@ fn walk(text: &[u8], task: Task, size: usize, region: &mut [u8]) -> Verdict
                     cursor = next;
                 }
             },
-            Token::Refused(place) => {
-                return Verdict::Refused {
-                    refusal: Refusal::TextMalformed,
-                    place: place,
-                };
-            }
-            Token::End => {
-                return conclude(found);
-            }
+            Token::Refused(place) => return refuse(Refusal::TextMalformed, place),
+            Token::End => return conclude(found),
         }
     }
 }
@@ -135,16 +132,10 @@ pub fn judge(text: &[u8], size: usize) -> Verdict
     ensures { λ r. ⌜ judged r ≡ rulesOf (now (text .entry)) size ⌝ }
 {
     if !region::size_good(size) {
-        return Verdict::Refused {
-            refusal: Refusal::RegionSize,
-            place: 0,
-        };
+        return refuse(Refusal::RegionSize, 0);
     }
     if LONGEST < text.len() {
-        return Verdict::Refused {
-            refusal: Refusal::TooLong,
-            place: 0,
-        };
+        return refuse(Refusal::TooLong, 0);
     }
     let mut none = [0u8; 1];
     walk(text, Task::Judge, size, &mut none)

@@ -50,10 +50,7 @@ pub fn read(text: &[u8], size: usize, region: &mut [u8]) -> Verdict
     ensures { λ r. ⌜ outcome (judged r) (now (region .exit)) ≡ readOf (now (text .entry)) size (now (region .entry)) ⌝ }
 {
     if region.len() != size {
-        return Verdict::Refused {
-            refusal: Refusal::RegionSize,
-            place: 0,
-        };
+        return text_image::refuse(Refusal::RegionSize, 0);
     }
     let verdict = text_image::judge(text, size);
     let sound = is_sound(verdict);
@@ -124,12 +121,8 @@ fn agrees(text: &[u8], buffer: &[u8]) -> bool
                 }
                 cursor = next;
             }
-            Token::Refused(_) => {
-                return false;
-            }
-            Token::End => {
-                return blank_elsewhere(buffer, &map);
-            }
+            Token::Refused(_) => return false,
+            Token::End => return blank_elsewhere(buffer, &map),
         }
     }
 }

@@ -1,6 +1,5 @@
 -- `text_cursor::last` meets its contract, by what `line_end` found.
 -- Assumes nothing.
-use Prim.Native.Nat.{_-_}
 use mathlib.Core.Path.{refl, sym, _∙_}
 use denote.Ref.{now}
 use Rattle.firmware_text.specs.Machine.{quit, over, last, stuck}

@@ -16,6 +16,7 @@ use Rattle.address_set.proofs.Maps.{unmarked}
 use Rattle.text_image.specs.declared.Task.{Task}
 use Rattle.text_image.specs.declared.Found.{Found}
 use Rattle.text_image.specs.Picture.{placed}
+use Rattle.text_image.specs.Rules.{judged}
 use Rattle.text_image.specs.Walk.{noted}
 use Rattle.text_image.proofs.Pictures.{byte-placed}
 use Rattle.text_image.proofs.Walks.{Noted, Walking, walk-start, walk-segment, noted-byte, walk-end, walk-refused}
@@ -127,14 +128,17 @@ loop-again-3 c =
 enum-known-place-2 : tie.Need-enum-known-place-2 Inv-loop μ-loop
 enum-known-place-2 c = search needs
 
+refuse-requires : tie.Need-refuse-requires Inv-loop μ-loop
+refuse-requires c κs = search needs
+
 same-length : tie.Need-same-length Inv-loop μ-loop
-same-length c = c .before .before .before .before .loop .inv .1
+same-length c = c .before .before .before .before .before .loop .inv .1
 
 returns : tie.Need-returns Inv-loop μ-loop
 returns c =
-    let args = c .before .before .before .before .before .before .before .before .args in
-    let l = c .before .before .before .before .loop in
-    walk-refused (args .size) (imageOf (now (args .text))) (now (args .region)) (l .map) _ (args .task) (l .found) _ (l .region) _ (refused-told _ _ _ (c .before .before .before .next .ensures) (c .before .place2 .given .1)) (l .inv .2) (l .inv .3) refl
+    let args = c .before .before .before .before .before .before .before .before .before .args in
+    let l = c .before .before .before .before .before .loop in
+    walk-refused (args .size) (imageOf (now (args .text))) (now (args .region)) (l .map) _ (args .task) (l .found) _ (l .region) _ (refused-told _ _ _ (c .before .before .before .before .next .ensures) (c .before .before .place2 .given .1)) (l .inv .2) (l .inv .3) (ap judged (c .refuse .ensures))
 
 enum-told-3 : tie.Need-enum-told-3 Inv-loop μ-loop
 enum-told-3 c = search needs
@@ -175,6 +179,7 @@ walk-spec =
     loop-less-3
     loop-again-3
     enum-known-place-2
+    refuse-requires
     same-length
     returns
     enum-told-3

@@ -1,6 +1,5 @@
 -- `ti_txt::is_picture` meets its contract, by what its callees ensure.
 -- Assumes nothing.
-use Prim.Native.Nat.{_-_}
 use mathlib.Core.Path.{_≡_, refl, sym, _∙_}
 use borrow.Author.Needs.{needs}
 use denote.Ref.{now}

@@ -1,13 +1,13 @@
 -- `ti_txt::read` meets its contract, by what its callees ensure.
 -- Assumes nothing.
-use Prim.Native.Nat.{_-_}
-use mathlib.Core.Path.{refl, ap, _∙_}
+use mathlib.Core.Path.{ap, _∙_}
 use borrow.Author.Needs.{needs}
 use denote.Ref.{now}
 use mathlib.Core.Bool.{Bool, cond}
 use lib.ListN.{length}
 use borrow.Author.Tests.{ne-eqb}
 use Rattle.firmware_text.specs.Machine.{imageOf}
+use Rattle.text_image.specs.declared.Verdict.{Verdict}
 use Rattle.text_image.specs.Rules.{judged}
 use Rattle.text_image.specs.Picture.{pictureOf}
 use Rattle.ti_txt.specs.Answers.{outcome, readOf}
@@ -15,9 +15,12 @@ use Rattle.ti_txt.proofs.Outcomes.{read-sized}
 use Rattle.ti_txt.proofs.read.Statement.{statement}
 use Rattle.ti_txt.proofs.read.Tie as tie
 
+refuse-requires : tie.Need-refuse-requires
+refuse-requires c κs = search needs
+
 returns : tie.Need-returns
 unfolding readOf
-returns c = simp (ne-eqb _ _ (c .if1 .taken)) refl
+returns c = simp (ne-eqb _ _ (c .before .if1 .taken)) (ap (λ (v : Verdict). outcome (judged v) (now (c .before .before .before .before .args .region))) (c .refuse .ensures))
 
 judge-requires : tie.Need-judge-requires
 judge-requires c κs = search needs
@@ -43,4 +46,11 @@ returns-2 c =
 pub read-spec : {M : Type 1} → statement M
 read-spec =
     tie.close
-    (tie.spec returns judge-requires is-sound-requires show-requires same-length returns-2)
+    (tie.spec
+    refuse-requires
+    returns
+    judge-requires
+    is-sound-requires
+    show-requires
+    same-length
+    returns-2)

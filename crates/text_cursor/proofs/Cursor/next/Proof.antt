@@ -1,6 +1,6 @@
 -- `text_cursor::Cursor::next` meets its contract: by what stands ahead.
 -- Assumes nothing.
-use Prim.Native.Nat.{_+_, _-_, _^_}
+use Prim.Native.Nat.{_+_, _^_}
 use mathlib.Core.Path.{sym, _∙_}
 use borrow.Author.Needs.{needs}
 use native.Mathlib.Omega.{arith}
