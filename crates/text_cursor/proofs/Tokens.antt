@@ -1,46 +1,34 @@
 -- What a token says of the image from the cursor on, for the walks above.
 -- Assumes nothing.
-use Prim.Native.Nat.{ℕ, _<_, _≤_}
-use mathlib.Core.Path.{_≡_, refl, sym, ap, subst, _∙_}
+use Prim.Native.Nat.{ℕ, _<_}
+use mathlib.Core.Path.{_≡_, refl, ap, subst, _∙_}
 use mathlib.Core.List.{List}
 use mathlib.Core.Bool.{Bool, true, false, cond}
 use native.Mathlib.Omega.{arith}
 use lib.Dec.{eqb}
-use lib.ListN.{length, drop}
+use lib.ListN.{drop}
 use borrow.Author.Tests.{eqb-true, eqb-false}
-use Rattle.firmware_text.specs.Image.{Image, segment, byte, end, broken}
+use Rattle.firmware_text.specs.Image.{Image, broken}
 use Rattle.firmware_text.specs.Machine.{State, imageOf}
 use Rattle.firmware_text.specs.Order.{Rising}
 use Rattle.firmware_text.proofs.Orders.{First, read-first}
 use Rattle.text_cursor.specs.Walk.{from, near, lineState, stopState, restAt, rest, beginning, told, Further, Tells}
 use Rattle.text_cursor.specs.declared.Cursor.{Cursor}
-use Rattle.text_cursor.proofs.Walks.{state-below, stop-line, stop-pair}
+use Rattle.text_cursor.proofs.Walks.{known, state-below, stop-line, stop-pair}
 use Rattle.text_cursor.specs.declared.Token.{Token}
-use Rattle.text_cursor.specs.declared.Token.the-variants.{Segment, Byte, Refused, End}
 
 -- from the start, it is the image of the text
 pub rest-beginning : (text : List ℕ) (c : Cursor) → c ≡ beginning → rest text c ≡ imageOf text
 unfolding restAt stopState lineState
 rest-beginning text c e = ap (rest text) e
 
+-- what a token tells is the image from the cursor on, and its own cursor stands further on
 module _ (text : List ℕ) (c : Cursor) (r : Token) (t : Tells text (c .at) (rest text c) r) where
-  pub segment-told : {a : ℕ} {n : Cursor} → r ≡ Segment a n → segment a (rest text n) ≡ rest text c
-  segment-told e = ap (told text) (sym e) ∙ t .tells
+  pub tells-so : {so : Token} → r ≡ so → told text so ≡ rest text c
+  tells-so e = known (told text) e (t .tells)
 
-  pub segment-further : {a : ℕ} {n : Cursor} → r ≡ Segment a n → (c .at < n .at) × (n .at ≤ length text)
-  segment-further e = subst (Further text (c .at)) e (t .further)
-
-  pub byte-told : {p a v : ℕ} {n : Cursor} → r ≡ Byte p a v n → byte p a v (rest text n) ≡ rest text c
-  byte-told e = ap (told text) (sym e) ∙ t .tells
-
-  pub byte-further : {p a v : ℕ} {n : Cursor} → r ≡ Byte p a v n → (c .at < n .at) × (n .at ≤ length text)
-  byte-further e = subst (Further text (c .at)) e (t .further)
-
-  pub refused-told : {p : ℕ} → r ≡ Refused p → broken p ≡ rest text c
-  refused-told e = ap (told text) (sym e) ∙ t .tells
-
-  pub end-told : r ≡ End → end ≡ rest text c
-  end-told e = ap (told text) (sym e) ∙ t .tells
+  pub further-so : {so : Token} → r ≡ so → Further text (c .at) so
+  further-so e = subst (Further text (c .at)) e (t .further)
 
 -- below a segment, the bytes that stand next have the cursor's address and those behind it
 state-rising : (k a : ℕ) (i : Image) → k < 17 → First (stopState k a) i → Rising a i

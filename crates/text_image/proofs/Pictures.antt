@@ -8,8 +8,7 @@ use lib.Dec.{eqb}
 use lib.ListN.{length, set, getD, replicate, length-set, length-replicate, getD-replicate}
 use lib.Seq.{getD-set-same, getD-set-other}
 use borrow.Author.Tests.{eq-eqb}
-use Rattle.firmware_text.specs.Image.{Image, segment, byte, end, broken}
-use Rattle.firmware_text.specs.Meaning.{none, at}
+use Rattle.firmware_text.specs.Image.{Image, segment, byte, end, broken, none, at}
 use Rattle.text_image.specs.Rules.{among, repeatedOf}
 use Rattle.text_image.proofs.Sounds.{not-none}
 use Rattle.text_image.specs.Picture.{placed, pictureOf, Has, here, later, below, Shows}

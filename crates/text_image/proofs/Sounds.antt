@@ -4,8 +4,7 @@ use Prim.Native.Nat.{ℕ}
 use mathlib.Core.Path.{_≡_, refl, ap, _∙_}
 use mathlib.Core.List.{[]}
 use mathlib.Core.Bool.{Bool, true, false, false≢true}
-use Rattle.firmware_text.specs.Image.{Image}
-use Rattle.firmware_text.specs.Meaning.{Fault, none, at, faultOf}
+use Rattle.firmware_text.specs.Image.{Image, Fault, none, at, faultOf}
 use Rattle.text_image.specs.Rules.{outsideOf, repeatedOf, Judgement, sound, unless, imageRules, isSound}
 
 -- a fault of the kind, or the next rule

@@ -8,8 +8,7 @@ use native.Mathlib.Omega.{arith}
 use lib.Dec.{eqb, ltb}
 use lib.ListN.{length}
 use borrow.Author.Tests.{ltb-true, ltb-false}
-use Rattle.firmware_text.specs.Image.{Image, segment, byte, end, broken}
-use Rattle.firmware_text.specs.Meaning.{at, faultOf}
+use Rattle.firmware_text.specs.Image.{Image, segment, byte, end, broken, at, faultOf}
 use Rattle.address_set.specs.Bits.{marked, Marked}
 use Rattle.address_set.proofs.Maps.{marked-more}
 use Rattle.text_image.specs.declared.Task.{Task}

@@ -7,9 +7,8 @@ use lib.Dec.{ltb, leb, eqb}
 use lib.ListN.{length}
 use Rattle.refusal.specs.Refusal.{numberOf}
 use Rattle.region.specs.Size.{goodSize}
-use Rattle.firmware_text.specs.Image.{Image, segment, byte, end, broken}
+use Rattle.firmware_text.specs.Image.{Image, segment, byte, end, broken, Fault, none, at, faultOf}
 use Rattle.firmware_text.specs.Machine.{imageOf}
-use Rattle.firmware_text.specs.Meaning.{Fault, none, at, faultOf}
 use Rattle.text_image.specs.declared.Verdict.{Verdict}
 use Rattle.text_image.specs.declared.Verdict.the-variants.{Sound, Refused}
 

@@ -1,4 +1,4 @@
--- What one walk through a text does, for each of its uses.
+-- What one walk through a text does, for each of its uses; no other layer needs it.
 -- Assumes nothing.
 use Prim.Native.Nat.{ℕ}
 use mathlib.Core.Path.{_≡_}

@@ -12,8 +12,7 @@ use lib.Seq.{getD-set-same, getD-set-other, ext-getD}
 use borrow.Author.Tests.{eqb-true, eqb-false, ltb-true, ltb-false}
 use Rattle.region.specs.Same.{same}
 use Rattle.region.proofs.Sames.{same-true, same-false}
-use Rattle.firmware_text.specs.Image.{Image, segment, byte, end}
-use Rattle.firmware_text.specs.Meaning.{none}
+use Rattle.firmware_text.specs.Image.{Image, segment, byte, end, none}
 use Rattle.address_set.specs.Bits.{marked}
 use Rattle.text_image.specs.Rules.{among, repeatedOf, imageRules, isSound}
 use Rattle.text_image.proofs.Parts.{segment-repeated, byte-new}

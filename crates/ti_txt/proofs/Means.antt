@@ -8,10 +8,9 @@ use native.Mathlib.Omega.{arith}
 use lib.ListN.{length}
 use borrow.Author.Tests.{eq-eqb, le-ltb}
 use Rattle.region.specs.Size.{goodSize}
-use Rattle.firmware_text.specs.Image.{Image}
+use Rattle.firmware_text.specs.Image.{Image, Fault, none, at, faultOf}
 use Rattle.firmware_text.specs.Grammar.{WellFormed, Longest, denoted}
 use Rattle.firmware_text.specs.Machine.{imageOf}
-use Rattle.firmware_text.specs.Meaning.{Fault, none, at, faultOf}
 use Rattle.firmware_text.proofs.Means.{meaning}
 use Rattle.text_image.specs.Rules.{Judgement, sound, refused, unless, outsideOf, repeatedOf, imageRules, rulesOf, longest, isSound}
 use Rattle.text_image.specs.Picture.{pictureOf, Shows}
@@ -25,10 +24,6 @@ within : (text : List ℕ) (n : ℕ) (old : List ℕ) → goodSize n ≡ true �
     → filled (imageRules n (imageOf text)) (pictureOf n (imageOf text)) old ≡ readOf text n old
 unfolding readOf rulesOf
 within text n old g s l = rw (eq-eqb _ _ s, g, le-ltb longest (length text) l) refl
-
-filled-answer : (j : Judgement) (picture old : List ℕ) → filled j picture old .answer ≡ j
-filled-answer sound picture old = refl
-filled-answer (refused number place) picture old = refl
 
 -- the number and the place of a refusal; a sound text has neither
 numbered : Judgement → ℕ
@@ -54,8 +49,7 @@ module _ (text : List ℕ) (n : ℕ) (old : List ℕ) where
   broken-reads : (q : ℕ) → faultOf (imageOf text) ≡ at q → Reads text n o
   unfolding o imageRules numbered placed-at
   broken-reads q e =
-      let third : imageRules n (imageOf text) ≡ refused 3 q = rw e refl in
-      let answer : o .answer ≡ refused 3 q = filled-answer (imageRules n (imageOf text)) (pictureOf n (imageOf text)) old ∙ third in
+      let answer : o .answer ≡ refused 3 q = rw e refl in
       let not : WellFormed text → ⊥ = λ w. not-none q _ (sym e) (meaning text .accepted .1 w) in
       record {
         third = λ p f. (not, subst (Longest text) (ap placed-at (sym answer ∙ f)) (meaning text .longest q e));
@@ -68,11 +62,10 @@ module _ (text : List ℕ) (n : ℕ) (old : List ℕ) where
   unfolding o imageRules
   whole-reads e =
       let w = meaning text .accepted .0 e in
-      let answer = filled-answer (imageRules n (imageOf text)) (pictureOf n (imageOf text)) old in
       record {
-        third = λ p f. absurd (later-rules (outsideOf n (imageOf text)) (repeatedOf [] (imageOf text)) p (rw e at (sym answer ∙ f)));
+        third = λ p f. absurd (later-rules (outsideOf n (imageOf text)) (repeatedOf [] (imageOf text)) p (rw e at f));
         malformed = λ h. absurd (h w);
-        shown = λ f. (w, shows w (sym answer ∙ f));
+        shown = λ f. (w, shows w f);
       }
     where
       shows : (w : WellFormed text) → imageRules n (imageOf text) ≡ sound → Shows n (denoted w) (o .region)

@@ -7,7 +7,7 @@ use lib.Dec.{eqb}
 use lib.ListN.{length}
 use Rattle.region.specs.Same.{same}
 use Rattle.firmware_text.specs.Machine.{imageOf}
-use Rattle.text_image.specs.Rules.{Judgement, sound, refused, rulesOf, isSound}
+use Rattle.text_image.specs.Rules.{Judgement, refused, rulesOf, isSound}
 use Rattle.text_image.specs.Picture.{pictureOf}
 
 -- an answer in document 01's terms, with the region then
@@ -15,13 +15,13 @@ pub record Outcome : Type 0 where
   pub answer : Judgement
   pub region : List ℕ
 
+-- the two together
 abbrev pub outcome : Judgement → List ℕ → Outcome
 outcome answer region = record { answer = answer; region = region }
 
 -- a sound text leaves its picture, a refused one the region as it was
 abbrev pub filled : Judgement → List ℕ → List ℕ → Outcome
-filled sound picture old = outcome sound picture
-filled (refused number place) picture old = outcome (refused number place) old
+filled answer picture old = outcome answer (cond (isSound answer) picture old)
 
 -- the reader: 1 for a region that is not n long, then the rules of the text
 unfoldable pub readOf : List ℕ → ℕ → List ℕ → Outcome

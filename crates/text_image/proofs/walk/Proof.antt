@@ -8,10 +8,10 @@ use denote.Ref.{now}
 use mathlib.Core.Bool.{Bool}
 use lib.Dec.{ltb}
 use lib.ListN.{length, length-replicate}
-use Rattle.firmware_text.specs.Meaning.{faultOf}
+use Rattle.firmware_text.specs.Image.{faultOf}
 use Rattle.firmware_text.specs.Machine.{imageOf}
 use Rattle.text_cursor.specs.Walk.{rest}
-use Rattle.text_cursor.proofs.Tokens.{rest-beginning, segment-told, segment-further, byte-told, byte-further, refused-told, end-told}
+use Rattle.text_cursor.proofs.Tokens.{rest-beginning, tells-so, further-so}
 use Rattle.address_set.proofs.Maps.{unmarked}
 use Rattle.text_image.specs.declared.Task.{Task}
 use Rattle.text_image.specs.declared.Found.{Found}
@@ -46,14 +46,14 @@ enum-known-next c = search needs
 
 loop-less : tie.Need-loop-less Inv-loop μ-loop
 loop-less c =
-    let f = segment-further _ _ _ (c .before .before .before .next .ensures) (c .before .next2 .given .1) in
+    let f = further-so _ _ _ (c .before .before .before .next .ensures) (c .before .next2 .given .1) in
     omega (arith, f .0, f .1)
 
 loop-again : tie.Need-loop-again Inv-loop μ-loop
 loop-again c =
     let args = c .before .before .before .before .before .before .before .before .args in
     let l = c .before .before .before .before .loop in
-    let e = segment-told _ _ _ (c .before .before .before .next .ensures) (c .before .next2 .given .1) in
+    let e = tells-so _ _ _ (c .before .before .before .next .ensures) (c .before .next2 .given .1) in
     (l .inv .0, l .inv .1, ap faultOf e ∙ l .inv .2, walk-segment (args .size) _ (now (args .region)) (l .map) _ (l .region) e (args .task) (l .found) (l .inv .3))
 
 enum-known-place : tie.Need-enum-known-place Inv-loop μ-loop
@@ -73,7 +73,7 @@ note-requires c κs = search needs
 
 loop-less-2 : tie.Need-loop-less-2 Inv-loop μ-loop
 loop-less-2 c =
-    let f = byte-further _ _ _ (c .before .before .before .before .before .before .before .before .before .next .ensures) (c .before .before .before .before .before .before .before .place .given .1) in
+    let f = further-so _ _ _ (c .before .before .before .before .before .before .before .before .before .next .ensures) (c .before .before .before .before .before .before .before .place .given .1) in
     omega (arith, f .0, f .1)
 
 loop-again-2 : tie.Need-loop-again-2 Inv-loop μ-loop
@@ -81,7 +81,7 @@ loop-again-2 c =
     let args = c .before .before .before .before .before .before .before .before .before .before .before .before .before .before .args in
     let image = imageOf (now (args .text)) in
     let l = c .before .before .before .before .before .before .before .before .before .before .loop in
-    let e = byte-told _ _ _ (c .before .before .before .before .before .before .before .before .before .next .ensures) (c .before .before .before .before .before .before .before .place .given .1) in
+    let e = tells-so _ _ _ (c .before .before .before .before .before .before .before .before .before .next .ensures) (c .before .before .before .before .before .before .before .place .given .1) in
     let p = c .before .before .before .before .before .before .before .place .given .0 .0 in
     let a = c .before .before .before .before .before .before .before .place .given .0 .1 .0 in
     let v = c .before .before .before .before .before .before .before .place .given .0 .1 .1 .0 in
@@ -106,7 +106,7 @@ store-requires c κs = search needs
 
 loop-less-3 : tie.Need-loop-less-3 Inv-loop μ-loop
 loop-less-3 c =
-    let f = byte-further _ _ _ (c .before .before .before .before .before .before .before .before .before .next .ensures) (c .before .before .before .before .before .before .before .place .given .1) in
+    let f = further-so _ _ _ (c .before .before .before .before .before .before .before .before .before .next .ensures) (c .before .before .before .before .before .before .before .place .given .1) in
     omega (arith, f .0, f .1)
 
 loop-again-3 : tie.Need-loop-again-3 Inv-loop μ-loop
@@ -114,7 +114,7 @@ loop-again-3 c =
     let args = c .before .before .before .before .before .before .before .before .before .before .before .before .before .before .args in
     let image = imageOf (now (args .text)) in
     let l = c .before .before .before .before .before .before .before .before .before .before .loop in
-    let e = byte-told _ _ _ (c .before .before .before .before .before .before .before .before .before .next .ensures) (c .before .before .before .before .before .before .before .place .given .1) in
+    let e = tells-so _ _ _ (c .before .before .before .before .before .before .before .before .before .next .ensures) (c .before .before .before .before .before .before .before .place .given .1) in
     let left = rest (now (args .text)) (c .before .before .before .before .before .before .before .place .given .0 .1 .1 .1 .0) in
     let placing = c .before .before .before .before .enum-told2 .given .1 in
     let old = now (args .region) in
@@ -138,7 +138,7 @@ returns : tie.Need-returns Inv-loop μ-loop
 returns c =
     let args = c .before .before .before .before .before .before .before .before .before .args in
     let l = c .before .before .before .before .before .loop in
-    walk-refused (args .size) (imageOf (now (args .text))) (now (args .region)) (l .map) _ (args .task) (l .found) _ (l .region) _ (refused-told _ _ _ (c .before .before .before .before .next .ensures) (c .before .before .place2 .given .1)) (l .inv .2) (l .inv .3) (ap judged (c .refuse .ensures))
+    walk-refused (args .size) (imageOf (now (args .text))) (now (args .region)) (l .map) _ (args .task) (l .found) _ (l .region) _ (tells-so _ _ _ (c .before .before .before .before .next .ensures) (c .before .before .place2 .given .1)) (l .inv .2) (l .inv .3) (ap judged (c .refuse .ensures))
 
 enum-told-3 : tie.Need-enum-told-3 Inv-loop μ-loop
 enum-told-3 c = search needs
@@ -153,7 +153,7 @@ returns-2 : tie.Need-returns-2 Inv-loop μ-loop
 returns-2 c =
     let args = c .before .before .before .before .before .before .before .before .args in
     let l = c .before .before .before .before .loop in
-    walk-end (args .size) (imageOf (now (args .text))) (now (args .region)) (l .map) _ (args .task) (l .found) _ (l .region) (end-told _ _ _ (c .before .before .before .next .ensures) (c .before .enum-told3 .given .1)) (l .inv .2) (l .inv .3) (c .conclude .ensures)
+    walk-end (args .size) (imageOf (now (args .text))) (now (args .region)) (l .map) _ (args .task) (l .found) _ (l .region) (tells-so _ _ _ (c .before .before .before .next .ensures) (c .before .enum-told3 .given .1)) (l .inv .2) (l .inv .3) (c .conclude .ensures)
 
 pub walk-spec : {M : Type 1} → statement M
 walk-spec =

@@ -13,9 +13,9 @@ use lib.ListN.{length, getD, length-replicate}
 use borrow.Author.Tests.{not-true, not-false, ltb-true, eqb-true}
 use Rattle.test_laws.proofs.Tests.{both}
 use Rattle.firmware_text.specs.Machine.{imageOf}
-use Rattle.firmware_text.specs.Meaning.{faultOf}
+use Rattle.firmware_text.specs.Image.{faultOf}
 use Rattle.text_cursor.specs.Walk.{rest}
-use Rattle.text_cursor.proofs.Tokens.{rest-beginning, segment-told, segment-further, byte-told, byte-further, refused-told, end-told}
+use Rattle.text_cursor.proofs.Tokens.{rest-beginning, tells-so, further-so}
 use Rattle.address_set.proofs.Maps.{marked-more, unmarked}
 use Rattle.region.specs.Same.{same}
 use Rattle.text_image.specs.Rules.{outsideOf}
@@ -49,12 +49,12 @@ enum-known-next c = search needs
 
 loop-less : tie.Need-loop-less Inv-loop μ-loop
 loop-less c =
-    let f = segment-further _ _ _ (c .before .before .before .next .ensures) (c .before .next2 .given .1) in
+    let f = further-so _ _ _ (c .before .before .before .next .ensures) (c .before .next2 .given .1) in
     omega (arith, f .0, f .1)
 
 loop-again : tie.Need-loop-again Inv-loop μ-loop
 loop-again c =
-    let e = segment-told _ _ _ (c .before .before .before .next .ensures) (c .before .next2 .given .1) in
+    let e = tells-so _ _ _ (c .before .before .before .next .ensures) (c .before .next2 .given .1) in
     let inv = c .before .before .before .before .loop .inv in
     (inv .0, ap faultOf e ∙ inv .1, segment-outside e _ ∙ inv .2, agreed-segment _ _ _ _ (inv .3) e)
 
@@ -68,7 +68,7 @@ returns : tie.Need-returns Inv-loop μ-loop
 returns c =
     let buffer = now (c .before .before .before .before .before .before .before .before .before .before .args .buffer) in
     let image = imageOf (now (c .before .before .before .before .before .before .before .before .before .before .args .text)) in
-    let e = byte-told _ _ _ (c .before .before .before .before .before .next .ensures) (c .before .before .before .address .given .1) in
+    let e = tells-so _ _ _ (c .before .before .before .before .before .next .ensures) (c .before .before .before .address .given .1) in
     let p = c .before .before .before .address .given .0 .0 in
     let a = c .before .before .before .address .given .0 .1 .0 in
     let inv = c .before .before .before .before .before .before .loop .inv in
@@ -89,20 +89,20 @@ returns-2 : tie.Need-returns-2 Inv-loop μ-loop
 returns-2 c =
     let buffer = now (c .before .before .before .before .before .before .before .before .before .before .before .before .before .before .args .buffer) in
     let image = imageOf (now (c .before .before .before .before .before .before .before .before .before .before .before .before .before .before .args .text)) in
-    let e = byte-told _ _ _ (c .before .before .before .before .before .before .before .before .before .next .ensures) (c .before .before .before .before .before .before .before .address .given .1) in
+    let e = tells-so _ _ _ (c .before .before .before .before .before .before .before .before .before .next .ensures) (c .before .before .before .before .before .before .before .address .given .1) in
     let inv = c .before .before .before .before .before .before .before .before .before .before .loop .inv in
     let again = sym (inv .3 .map-is _) ∙ sym (c .before .before .mark .ensures .0) ∙ c .if2 .taken in
     cannot-be buffer image (λ s same. not-none _ _ (byte-repeated e (inv .3 .seen) again ∙ inv .3 .repeats) (sound-parts _ image s .2))
 
 loop-less-2 : tie.Need-loop-less-2 Inv-loop μ-loop
 loop-less-2 c =
-    let f = byte-further _ _ _ (c .before .before .before .before .before .before .before .before .before .next .ensures) (c .before .before .before .before .before .before .before .address .given .1) in
+    let f = further-so _ _ _ (c .before .before .before .before .before .before .before .before .before .next .ensures) (c .before .before .before .before .before .before .before .address .given .1) in
     omega (arith, f .0, f .1)
 
 loop-again-2 : tie.Need-loop-again-2 Inv-loop μ-loop
 loop-again-2 c =
     let buffer = now (c .before .before .before .before .before .before .before .before .before .before .before .before .before .before .args .buffer) in
-    let e = byte-told _ _ _ (c .before .before .before .before .before .before .before .before .before .next .ensures) (c .before .before .before .before .before .before .before .address .given .1) in
+    let e = tells-so _ _ _ (c .before .before .before .before .before .before .before .before .before .next .ensures) (c .before .before .before .before .before .before .before .address .given .1) in
     let a = c .before .before .before .before .before .before .before .address .given .0 .1 .0 in
     let v = c .before .before .before .before .before .before .before .address .given .0 .1 .1 .0 in
     let inv = c .before .before .before .before .before .before .before .before .before .before .loop .inv in
@@ -124,7 +124,7 @@ returns-3 : tie.Need-returns-3 Inv-loop μ-loop
 returns-3 c =
     let buffer = now (c .before .before .before .before .before .before .before .args .buffer) in
     let image = imageOf (now (c .before .before .before .before .before .before .before .args .text)) in
-    let e = refused-told _ _ _ (c .before .before .next .ensures) (c .enum-told .given .1) in
+    let e = tells-so _ _ _ (c .before .before .next .ensures) (c .enum-told .given .1) in
     cannot-be buffer image (λ s same. not-none _ _ (ap faultOf e ∙ c .before .before .before .loop .inv .1) (sound-parts _ image s .0))
 
 enum-told-2 : tie.Need-enum-told-2 Inv-loop μ-loop
@@ -140,7 +140,7 @@ returns-4 : tie.Need-returns-4 Inv-loop μ-loop
 returns-4 c =
     let buffer = now (c .before .before .before .before .before .before .before .before .before .args .buffer) in
     let image = imageOf (now (c .before .before .before .before .before .before .before .before .before .args .text)) in
-    let e = end-told _ _ _ (c .before .before .before .before .next .ensures) (c .before .before .enum-told2 .given .1) in
+    let e = tells-so _ _ _ (c .before .before .before .before .next .ensures) (c .before .before .enum-told2 .given .1) in
     let inv = c .before .before .before .before .before .loop .inv in
     let whole = parts-sound (length buffer) image (ap faultOf e ∙ inv .1) (end-outside e _ ∙ inv .2) (end-repeated e _ ∙ inv .3 .repeats) in
     agreed-end _ _ _ _ (inv .3) e _ (c .blank-elsewhere .ensures) ∙ ap (λ (t : Bool). t && same buffer (pictureOf (length buffer) image)) (sym whole)

@@ -1,14 +1,14 @@
 -- `ti_txt::block_length` meets its contract: the bytes counted and those left to count are the block.
 -- Assumes nothing.
 use Prim.Native.Nat.{ℕ, suc, _+_, _-_, _≤_}
-use mathlib.Core.Path.{_≡_, ap}
+use mathlib.Core.Path.{_≡_, ap, refl}
 use borrow.Author.Needs.{needs}
 use native.Mathlib.Omega.{arith}
 use denote.Ref.{now}
 use Rattle.text_cursor.specs.Walk.{rest}
-use Rattle.text_cursor.proofs.Tokens.{segment-told, byte-told, refused-told, end-told}
+use Rattle.text_cursor.proofs.Tokens.{tells-so}
 use Rattle.ti_txt.specs.Blocks.{blockLength}
-use Rattle.ti_txt.proofs.BlockParts.{block-byte, block-segment, block-broken, block-end, block-none}
+use Rattle.ti_txt.proofs.BlockParts.{block-byte, block-stop, block-none}
 use Rattle.ti_txt.proofs.block_length.Statement.{statement}
 use Rattle.ti_txt.proofs.block_length.Tie as tie
 
@@ -31,25 +31,28 @@ enum-told : tie.Need-enum-told Inv-loop μ-loop
 enum-told c = search needs
 
 returns : tie.Need-returns Inv-loop μ-loop
+unfolding blockLength
 returns c =
     let l = c .before .before .before .before .loop in
-    omega (arith, block-segment (segment-told _ _ _ (c .before .before .next .ensures) (c .enum-told .given .1)) (256 - l .count), l .inv .1)
+    omega (arith, block-stop (tells-so _ _ _ (c .before .before .next .ensures) (c .enum-told .given .1)) (λ n. refl) (256 - l .count), l .inv .1)
 
 enum-told-2 : tie.Need-enum-told-2 Inv-loop μ-loop
 enum-told-2 c = search needs
 
 returns-2 : tie.Need-returns-2 Inv-loop μ-loop
+unfolding blockLength
 returns-2 c =
     let l = c .before .before .before .before .loop in
-    omega (arith, block-broken (refused-told _ _ _ (c .before .before .next .ensures) (c .enum-told2 .given .1)) (256 - l .count), l .inv .1)
+    omega (arith, block-stop (tells-so _ _ _ (c .before .before .next .ensures) (c .enum-told2 .given .1)) (λ n. refl) (256 - l .count), l .inv .1)
 
 enum-told-3 : tie.Need-enum-told-3 Inv-loop μ-loop
 enum-told-3 c = search needs
 
 returns-3 : tie.Need-returns-3 Inv-loop μ-loop
+unfolding blockLength
 returns-3 c =
     let l = c .before .before .before .before .loop in
-    omega (arith, block-end (end-told _ _ _ (c .before .before .next .ensures) (c .enum-told3 .given .1)) (256 - l .count), l .inv .1)
+    omega (arith, block-stop (tells-so _ _ _ (c .before .before .next .ensures) (c .enum-told3 .given .1)) (λ n. refl) (256 - l .count), l .inv .1)
 
 add-count : tie.Need-add-count Inv-loop μ-loop
 add-count c = omega arith
@@ -61,7 +64,7 @@ loop-again : tie.Need-loop-again Inv-loop μ-loop
 loop-again c =
     let l = c .before .before .before .before .before .loop in
     let k : 256 - l .count ≡ suc (256 - (l .count + 1)) = omega arith in
-    let b = block-byte (byte-told _ _ _ (c .before .before .before .next .ensures) (c .before .next2 .given .1)) (256 - (l .count + 1)) (256 - l .count) k in
+    let b = block-byte (tells-so _ _ _ (c .before .before .before .next .ensures) (c .before .next2 .given .1)) (256 - (l .count + 1)) (256 - l .count) k in
     (omega arith, omega (arith, b, l .inv .1))
 
 returns-4 : tie.Need-returns-4 Inv-loop μ-loop
