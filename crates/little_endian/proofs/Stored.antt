@@ -39,7 +39,7 @@ unfolding storedAt
 stored-not at new old past = rw (lt-leb (at + length new) (length old) past)
 
 -- nothing stored at a place
-stored-nothing : (at : ℕ) (old : List ℕ) → at ≤ length old → storedAt at [] old ≡ old
+pub stored-nothing : (at : ℕ) (old : List ℕ) → at ≤ length old → storedAt at [] old ≡ old
 stored-nothing at old fits = stored-between at [] old (omega arith) ∙ rw add-zero (take-append-drop at old)
 
 -- bytes stored right behind others are stored with them

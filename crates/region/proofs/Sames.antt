@@ -1,10 +1,13 @@
 -- The test of two lists is true exactly if they are one.
 -- Assumes nothing.
-use Prim.Native.Nat.{ℕ}
+use Prim.Native.Nat.{ℕ, _+_, _≤_, _<_}
 use mathlib.Core.Path.{_≡_, refl, sym, ap, _∙_}
 use mathlib.Core.List.{List, [], _∷_}
-use mathlib.Core.Bool.{Bool, true, false, false≢true}
+use mathlib.Core.Bool.{Bool, true, false, false≢true, _&&_}
+use native.Mathlib.Numerals.{add-one}
 use lib.Dec.{eqb}
+use lib.ListN.{length, getD, drop, drop-of-length-le}
+use lib.Seq.{drop-cons}
 use borrow.Author.Tests.{eqb-true, eq-eqb}
 use Rattle.test_laws.proofs.Tests.{both}
 use Rattle.region.specs.Same.{same}
@@ -32,3 +35,15 @@ same-false l m n = go (same l m) refl
     go : (t : Bool) → same l m ≡ t → same l m ≡ false
     go true e = absurd (n (same-eq l m e))
     go false e = e
+
+module _ (l m : List ℕ) (i : ℕ) where
+  -- from a place inside both on: the bytes there, and what is behind them
+  pub same-next : i < length l → i < length m
+      → same (drop i l) (drop i m) ≡ eqb (getD l i 0) (getD m i 0) && same (drop (i + 1) l) (drop (i + 1) m)
+  unfolding same
+  same-next inl inm = rw (drop-cons l i 0, drop-cons m i 0, add-one)
+
+  -- from a place past both on
+  pub same-past : length l ≤ i → length m ≤ i → same (drop i l) (drop i m) ≡ true
+  unfolding same
+  same-past pastl pastm = rw (drop-of-length-le l pastl, drop-of-length-le m pastm)

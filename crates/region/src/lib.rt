@@ -1,6 +1,8 @@
-// A flash region of N bytes, document 01's N: the rule of its size, and every byte set to one value.
+// A flash region of N bytes, document 01's N: the rule of its size, every byte set to one value, and
+// whether two lists of bytes are the same.
 ghost use mathlib.Core.Path.{_≡_};
 ghost use lib.ListN.{length, replicate};
+ghost use Rattle.region.specs.Same.{same};
 ghost use Rattle.region.specs.Size.{goodSize};
 
 // Whether a region may have this size.
@@ -25,4 +27,21 @@ pub fn fill(region: &mut [u8], value: u8)
         region[i] = value;
         i = i + 1;
     }
+}
+
+// Whether two lists of bytes are the same.
+pub fn same(a: &[u8], b: &[u8]) -> bool
+    ensures { λ r. ⌜ r ≡ same (now (a .entry)) (now (b .entry)) ⌝ }
+{
+    if a.len() != b.len() {
+        return false;
+    }
+    let mut i = 0;
+    while i < a.len() {
+        if a[i] != b[i] {
+            return false;
+        }
+        i = i + 1;
+    }
+    true
 }

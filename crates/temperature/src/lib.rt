@@ -25,9 +25,12 @@ pub fn to_byte(t: i8) -> u8
     }
 }
 
-// The greater of two temperatures.
-pub fn greater(a: i8, b: i8) -> i8
-    ensures { λ r. ⌜ r ≡ greaterOf a b ⌝ }
+// The byte of the greater of two temperatures. They are compared as temperatures and not as bytes,
+// of which a cold one's is the greater.
+pub fn greater_byte(a: i8, b: i8) -> u8
+    ensures { λ r. ⌜ r ≡ byteOf (greaterOf a b) ⌝ }
 {
-    if a < b { b } else { a }
+    let first = to_byte(a);
+    let second = to_byte(b);
+    if a < b { second } else { first }
 }

@@ -38,7 +38,7 @@ pub fn temperatures(bytes: &[u8]) {
 pub fn greater(bytes: &[u8]) {
     let first = temperature::from_byte(little_endian::byte_at(bytes, 0));
     let second = temperature::from_byte(little_endian::byte_at(bytes, 1));
-    degrees(temperature::greater(first, second));
+    degrees(temperature::from_byte(temperature::greater_byte(first, second)));
 }
 
 // Total power from raw volts and raw amps.

@@ -1,0 +1,2 @@
+pub mod Loader
+pub mod Reply
