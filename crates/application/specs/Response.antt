@@ -41,6 +41,7 @@ pub record Left : Type 0 where
   pub says : Told
   pub buffer : List ℕ
 
+-- the two together
 abbrev pub left : Told → List ℕ → Left
 left says buffer = record { says = says; buffer = buffer }
 

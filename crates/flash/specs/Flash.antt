@@ -26,6 +26,7 @@ pub record Written : Type 0 where
   pub done : Bool
   pub region : List ℕ
 
+-- the two together
 abbrev pub written : Bool → List ℕ → Written
 written done region = record { done = done; region = region }
 

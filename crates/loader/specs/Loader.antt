@@ -24,14 +24,17 @@ pub record Outcome : Type 0 where
   pub region : List ℕ
   pub reply : Reply
 
+-- the three together
 abbrev pub outcome : Loader → List ℕ → Reply → Outcome
 outcome loader region reply = record { loader = loader; region = region; reply = reply }
 
+-- the mode is application
 abbrev pub isApplication : Mode → Bool
 isApplication Application = true
 isApplication Locked = false
 isApplication Unlocked = false
 
+-- the mode is loader unlocked
 abbrev pub isUnlocked : Mode → Bool
 isUnlocked Application = false
 isUnlocked Locked = false

@@ -20,6 +20,7 @@ pub record Placed : Type 0 where
   pub count : ℕ
   pub buffer : List ℕ
 
+-- the two together
 abbrev pub placed : ℕ → List ℕ → Placed
 placed count buffer = record { count = count; buffer = buffer }
 

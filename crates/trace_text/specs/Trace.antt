@@ -31,7 +31,7 @@ codes (suc n) at text = code (charAt text at) ∷ codes n (at + 1) text
 abbrev pub ascii : String → List ℕ
 ascii text = codes (len text) 0 text
 
--- a decimal digit, and a lower-case hex digit
+-- a decimal digit, or a lower-case hex digit, in ASCII
 unfoldable pub digit : ℕ → ℕ
 digit n = cond (ltb n 10) (48 + n) (87 + n)
 
@@ -111,19 +111,22 @@ bodyOf input =
 abbrev pub textOf : List ℕ → List ℕ
 textOf input = ascii "at cmd ack msg\n" ++ bodyOf input
 
--- what is answered, in document 01's terms, and the buffer then: a refusal's number, or the text's length
+-- an answer in document 01's terms: a refusal's number, or the text's length
 pub data Said : Type 0 where
   refused : ℕ → Said
   written : ℕ → Said
 
+-- what was answered, in these terms
 abbrev pub said : Traced → Said
 said (Refused why) = refused (numberOf why)
 said (Written n) = written n
 
+-- what is answered, and the buffer then
 pub record Left : Type 0 where
   pub answer : Said
   pub buffer : List ℕ
 
+-- the two together
 abbrev pub left : Said → List ℕ → Left
 left answer buffer = record { answer = answer; buffer = buffer }
 
