@@ -124,7 +124,7 @@ fn reply_to(version: Version, values: SensorRecord, request: Request, out: &mut 
     let one = values.device1;
     let two = values.device2;
     match request {
-        Request::BoardTemperature => { put(&[greater_byte(board.inlet, board.outlet)], out) },
+        Request::BoardTemperature => put(&[greater_byte(board.inlet, board.outlet)], out),
         Request::Power => {
             let watts = board.total_power;
             put(&[(watts % 256) as u8, (watts / 256 % 256) as u8], out)

@@ -67,6 +67,7 @@ fn write_message(done: bool) -> u8
     if done { 0x00 } else { 0x01 }
 }
 
+// The password command: its 256 bytes stand behind the code.
 fn try_password(loader: Loader, password: &[u8], core: &[u8]) -> Received
     ensures { λ r. ⌜ ((region : List ℕ) → outcome (r .loader) region (r .reply) ≡ passwordOf loader region (now (password .entry)) (now (core .entry))) ⌝ }
 {
@@ -83,6 +84,7 @@ fn try_password(loader: Loader, password: &[u8], core: &[u8]) -> Received
     }
 }
 
+// The write command: its data stand behind the address.
 fn write(loader: Loader, region: &mut [u8], core: &[u8]) -> Received
     ensures { λ r. ⌜ outcome (r .loader) (now (region .exit)) (r .reply) ≡ writeDone loader (now (region .entry)) (now (core .entry)) ⌝ }
 {
@@ -94,6 +96,7 @@ fn write(loader: Loader, region: &mut [u8], core: &[u8]) -> Received
     }
 }
 
+// The range checksum command.
 fn range_checksum(loader: Loader, region: &[u8], core: &[u8]) -> Received
     ensures { λ r. ⌜ outcome (r .loader) (now (region .entry)) (r .reply) ≡ rangeDone loader (now (region .entry)) (now (core .entry)) ⌝ }
 {
@@ -110,6 +113,7 @@ fn range_checksum(loader: Loader, region: &[u8], core: &[u8]) -> Received
     }
 }
 
+// The start command.
 fn start(loader: Loader, region: &[u8], core: &[u8]) -> Received
     ensures { λ r. ⌜ outcome (r .loader) (now (region .entry)) (r .reply) ≡ startOf loader (now (region .entry)) (now (core .entry)) ⌝ }
 {
