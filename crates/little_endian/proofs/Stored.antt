@@ -1,6 +1,6 @@
 -- Laws of bytes stored at a place: as a lent part comes back, and one store behind another.
 -- Assumes nothing.
-use mathlib.Core.Path.{_≡_, sym, ap, _∙_}
+use mathlib.Core.Path.{_≡_, sym, ap, ap₂, _∙_}
 use mathlib.Core.List.{List, [], _∷_, _++_, append-nil, append-assoc}
 use Prim.Native.Nat.{ℕ, _+_, _-_, _≤_, _<_}
 use native.Mathlib.Nat.{add-assoc, add-zero}
@@ -8,7 +8,7 @@ use native.Mathlib.Omega.{arith}
 use borrow.Author.Tests.{le-leb, lt-leb}
 use lib.ListN.{length, take, drop, length-append, length-drop, drop-of-length-le, take-append-drop}
 use lib.Seq.{take-all, take-at, take-length, drop-drop, drop-append-add, length-take-le}
-use Rattle.little_endian.specs.Bytes.{storedAt}
+use Rattle.little_endian.specs.Bytes.{storedAt, putBehind, joined}
 
 module _ (at : ℕ) (new old : List ℕ) (fits : at + length new ≤ length old) where
   -- new bytes that fit stand between what was before them and what was behind
@@ -57,10 +57,13 @@ stored-joined at x y old fits =
     stored-between (at + length x) y (storedAt at x old) second
     ∙ rw (stored-between at x old first, stored-between at (x ++ y) old whole, ← append-assoc (take at old) x, before, after) (simp append-assoc)
 
--- lists one behind the other
-abbrev pub joined : List (List ℕ) → List ℕ
-joined [] = []
-joined (x ∷ xs) = x ++ joined xs
+-- bytes put behind others are put with them
+pub put-then : (x y : List ℕ) (n : ℕ) (old : List ℕ) (h : ℕ) (mid : List ℕ) (r : ℕ) (new : List ℕ)
+    → putBehind x n old h mid → putBehind y h mid r new → n + (length x + length y) ≤ length old → putBehind (x ++ y) n old r new
+put-then x y n old h mid r new first second room = (
+  second .0 ∙ rw (first .0, length-append x y) (omega arith),
+  second .1 ∙ ap₂ (λ (at : ℕ) (l : List ℕ). storedAt at y l) (first .0) (first .1) ∙ stored-joined n x y old room,
+)
 
 -- lists stored one after the other, each right behind the one before
 abbrev pub storedInTurn : ℕ → List (List ℕ) → List ℕ → List ℕ

@@ -2,6 +2,7 @@
 -- Assumes nothing.
 use mathlib.Core.Bool.{cond}
 use mathlib.Core.List.{List, [], _∷_, _++_}
+use mathlib.Core.Path.{_≡_}
 use Prim.Native.Nat.{ℕ, zero, suc, _+_, _*_, _/_, _%_, _<_}
 use lib.Dec.{leb}
 use lib.ListN.{length, getD, take, drop}
@@ -23,3 +24,12 @@ littleEndian (suc count) n = n % 256 ∷ littleEndian count (n / 256)
 -- a list with new bytes stored from a place on; as it was, if they do not fit there
 unfoldable pub storedAt : ℕ → List ℕ → List ℕ → List ℕ
 storedAt at new old = cond (leb (at + length new) (length old)) (take at old ++ (new ++ drop (at + length new) old)) old
+
+-- new bytes put behind the first n of a buffer: how many it has then, and the buffer then
+abbrev pub putBehind : List ℕ → ℕ → List ℕ → ℕ → List ℕ → Type 0
+putBehind new n before held after = (held ≡ n + length new) × (after ≡ storedAt n new before)
+
+-- lists one behind the other
+abbrev pub joined : List (List ℕ) → List ℕ
+joined [] = []
+joined (x ∷ xs) = x ++ joined xs

@@ -1,30 +1,19 @@
--- Laws of texts put behind each other, and how long the trace's parts are at most.
+-- How long the trace's parts are at most, and how its lines are put together.
 -- Assumes nothing.
-use mathlib.Core.Path.{_≡_, sym, ap, ap₂, _∙_}
+use mathlib.Core.Path.{_≡_, sym, ap, _∙_}
 use mathlib.Core.Bool.{Bool, true, false, cond}
 use mathlib.Core.List.{List, [], _∷_, _++_, append-assoc}
 use Prim.Native.Nat.{ℕ, zero, suc, _+_, _/_, _%_, _≤_}
 use native.Mathlib.Omega.{arith}
 use lib.Dec.{ltb}
 use lib.ListN.{length, getD, length-append}
-use Rattle.little_endian.specs.Bytes.{storedAt}
-use Rattle.little_endian.proofs.Stored.{stored-joined}
 use Rattle.packet.specs.Packet.{coreOf}
 use Rattle.loader.specs.declared.Mode.the-variants.{Application, Locked, Unlocked}
 use Rattle.loader.specs.declared.Reply.{Reply}
 use Rattle.loader.specs.declared.Reply.the-variants.{Nothing, Byte, Message, Data}
-use Rattle.trace_text.specs.Put.{putBehind}
 use Rattle.trace_text.specs.Trace.{ascii, digit, decimals, decimal, fields, lineOf, wordOf, endLine}
 use Rattle.trace_text.specs.declared.Ending.{Ending}
 use Rattle.trace_text.specs.declared.Ending.the-variants.{InMode, Cut, Long, Mark}
-
--- one text and then another are the joined text
-pub put-then : (x y : List ℕ) (n : ℕ) (old : List ℕ) (h : ℕ) (mid : List ℕ) (r : ℕ) (new : List ℕ)
-    → putBehind x n old h mid → putBehind y h mid r new → n + (length x + length y) ≤ length old → putBehind (x ++ y) n old r new
-put-then x y n old h mid r new first second room = (
-  second .0 ∙ rw (first .0, length-append x y) (omega arith),
-  second .1 ∙ ap₂ (λ (at : ℕ) (l : List ℕ). storedAt at y l) (first .0) (first .1) ∙ stored-joined n x y old room,
-)
 
 -- a choice is no longer than both
 pub either-short : (test : Bool) (x y : List ℕ) (k : ℕ) → length x ≤ k → length y ≤ k → length (cond test x y) ≤ k

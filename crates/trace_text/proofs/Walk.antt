@@ -16,11 +16,12 @@ use Rattle.loader.specs.declared.Mode.the-variants.{Application, Locked, Unlock
 use Rattle.script.specs.Script.{headed, frameLength, frontOf, packetBefore, framesOf}
 use Rattle.script.proofs.Framing.{frames-end, frames-next, frames-few, front-cut, front-whole}
 use Rattle.test_laws.proofs.Tests.{on-cond}
-use Rattle.trace_text.specs.Put.{putBehind}
+use Rattle.little_endian.specs.Bytes.{putBehind}
+use Rattle.little_endian.proofs.Stored.{put-then}
 use Rattle.trace_text.specs.Trace.{ascii, lineOf, endLine, endingOf, linesFrom, linesAt, locked, bodyOf, textOf}
 use Rattle.trace_text.specs.declared.Ending.{Ending}
 use Rattle.trace_text.specs.declared.Ending.the-variants.{InMode, Cut, Long, Mark}
-use Rattle.trace_text.proofs.Texts.{put-then, either-short, line-short, end-short}
+use Rattle.trace_text.proofs.Texts.{either-short, line-short, end-short}
 
 -- the firmware started, or nothing is left
 abbrev pub over : Mode → List ℕ → Bool

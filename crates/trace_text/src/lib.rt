@@ -16,7 +16,7 @@ ghost use lib.Dec.{eqb};
 ghost use lib.ListN.{length, drop};
 ghost use Rattle.loader.specs.Loader.{isApplication};
 ghost use Rattle.script.specs.Script.{framesOf};
-ghost use Rattle.trace_text.specs.Put.{putBehind};
+ghost use Rattle.little_endian.specs.Bytes.{putBehind};
 ghost use Rattle.trace_text.specs.Trace.{linesAt, bodyOf, said, left, tracedOf};
 
 // How a trace ends.

@@ -5,8 +5,8 @@ use mathlib.Core.Path.{ap, _∙_}
 use Prim.Native.Nat.{ℕ}
 use native.Mathlib.Omega.{arith}
 use lib.ListN.{replicate}
-use Rattle.little_endian.specs.Bytes.{littleEndian, storedAt}
-use Rattle.little_endian.proofs.Stored.{joined, in-turn, stored-between}
+use Rattle.little_endian.specs.Bytes.{littleEndian, storedAt, joined}
+use Rattle.little_endian.proofs.Stored.{in-turn, stored-between}
 use Rattle.sensor_values.specs.Layout.{packed, statusBits, securityBits, inputBytes, sensorBytes, errorBytes, deviceBytes, moduleBytes, bytesOf}
 use borrow.Author.Needs.{needs}
 use Rattle.sensor_writer.proofs.bytes.Statement.{statement}

@@ -11,7 +11,7 @@ use denote.Ref.{now}
 use Rattle.little_endian.proofs.Stored.{stored-nothing}
 use Rattle.loader.specs.Loader.{receivedOf}
 use Rattle.script.specs.Script.{frontOf, framesOf}
-use Rattle.trace_text.specs.Put.{putBehind}
+use Rattle.little_endian.specs.Bytes.{putBehind}
 use Rattle.trace_text.specs.Trace.{lineOf, linesAt}
 use Rattle.trace_text.specs.declared.Ending.the-variants.{InMode, Cut}
 use Rattle.trace_text.proofs.Walk.{over, part-tail, front-inside, lines-over, lines-cut, Reaches, reach-short, reach-end, reach-next}

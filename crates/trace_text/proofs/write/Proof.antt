@@ -8,7 +8,7 @@ use borrow.Author.Tests.{lt-ltb, le-ltb}
 use lib.ListN.{length, length-append}
 use denote.Ref.{now}
 use Rattle.trace_text.specs.Trace.{ascii, bodyOf, textOf, written, left, tracedOf}
-use Rattle.trace_text.proofs.Texts.{put-then}
+use Rattle.little_endian.proofs.Stored.{put-then}
 use Rattle.trace_text.proofs.Walk.{text-short}
 use borrow.Author.Needs.{needs}
 use Rattle.trace_text.proofs.write.Statement.{statement}

@@ -6,9 +6,10 @@ use mathlib.Core.List.{List, _++_}
 use native.Mathlib.Omega.{arith}
 use lib.ListN.{length}
 use denote.Ref.{now}
-use Rattle.trace_text.specs.Put.{putBehind}
+use Rattle.little_endian.specs.Bytes.{putBehind}
+use Rattle.little_endian.proofs.Stored.{put-then}
 use Rattle.trace_text.specs.Trace.{ascii, decimal, wordOf}
-use Rattle.trace_text.proofs.Texts.{put-then, offset-short, word-short, end-parts}
+use Rattle.trace_text.proofs.Texts.{offset-short, word-short, end-parts}
 use borrow.Author.Needs.{needs}
 use Rattle.trace_text.proofs.line.append_end.Statement.{statement}
 use Rattle.trace_text.proofs.line.append_end.Tie as tie

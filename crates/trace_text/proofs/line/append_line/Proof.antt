@@ -8,7 +8,8 @@ use lib.ListN.{length, getD}
 use denote.Ref.{now}
 use Rattle.packet.specs.Packet.{coreOf}
 use Rattle.trace_text.specs.Trace.{ascii, decimal, fields}
-use Rattle.trace_text.proofs.Texts.{put-then, offset-short, fields-short, line-parts}
+use Rattle.little_endian.proofs.Stored.{put-then}
+use Rattle.trace_text.proofs.Texts.{offset-short, fields-short, line-parts}
 use borrow.Author.Needs.{needs}
 use Rattle.trace_text.proofs.line.append_line.Statement.{statement}
 use Rattle.trace_text.proofs.line.append_line.Tie as tie
