@@ -136,6 +136,14 @@ pub fn range_length(core: &[u8]) -> usize
     little_endian::two_at(core, 5) as usize
 }
 
+// The core length that a packet states: 05 01 for a full block, where the vendor's page prints 09 00.
+fn stated(n: usize) -> u16
+    requires { ⌜ n ≤ 261 ⌝ }
+    ensures { λ r. ⌜ r ≡ n ⌝ }
+{
+    n as u16
+}
+
 // A packet around a core of at most 261 bytes, over the front of a buffer that has the room.
 fn wrap(core: &[u8], out: &mut [u8])
     requires { ⌜ (length (now core) ≤ 261) × (length (now core) + 5 ≤ length (now out)) ⌝ }
@@ -143,7 +151,7 @@ fn wrap(core: &[u8], out: &mut [u8])
 {
     let n = core.len();
     little_endian::store(&[0x80], 0, out);
-    little_endian::store_two(n as u16, 1, out);
+    little_endian::store_two(stated(n), 1, out);
     little_endian::store(core, 3, out);
     little_endian::store_two(crc::checksum(core), 3 + n, out);
 }

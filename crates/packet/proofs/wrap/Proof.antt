@@ -17,8 +17,8 @@ slice-aggregate-store c = search needs
 store-requires : tie.Need-store-requires
 store-requires c κs = search needs
 
-cast-store-two : tie.Need-cast-store-two
-cast-store-two c = search needs
+stated-requires : tie.Need-stated-requires
+stated-requires c κs = search needs
 
 store-two-requires : tie.Need-store-two-requires
 store-two-requires c κs = search needs
@@ -40,11 +40,11 @@ same-length c = search needs
 
 returns : tie.Need-returns
 returns c =
-    let a = c .before .before .before .before .before .before .before .before .before .before .before .before .before .before .before .before .before .before .before .before .args in
+    let a = c .before .before .before .before .before .before .before .before .before .before .before .before .before .before .before .before .before .before .before .before .before .args in
     let core = a .core .now in
     let n = length core in
-    let first = c .before .before .before .before .before .before .before .before .before .before .before .before .before .before .before .store .ensures in
-    let second = c .before .before .before .before .before .before .before .before .before .before .before .store-two .ensures ∙ ap (storedAt 1 (littleEndian 2 n)) first in
+    let first = c .before .before .before .before .before .before .before .before .before .before .before .before .before .before .before .before .store .ensures in
+    let second = c .before .before .before .before .before .before .before .before .before .before .before .store-two .ensures ∙ ap₂ (λ (stated : ℕ) (old : List ℕ). storedAt 1 (littleEndian 2 stated) old) (c .before .before .before .before .before .before .before .before .before .before .before .before .before .stated .ensures) first in
     let third = c .before .before .before .before .before .before .before .store2 .ensures ∙ ap (storedAt 3 core) second in
     c .before .before .store-two2 .ensures
     ∙ ap₂ (λ (sum : ℕ) (old : List ℕ). storedAt (3 + n) (littleEndian 2 sum) old) (c .before .before .before .before .checksum .ensures) third
@@ -56,7 +56,7 @@ wrap-spec =
     (tie.spec
     slice-aggregate-store
     store-requires
-    cast-store-two
+    stated-requires
     store-two-requires
     store-requires-2
     checksum-requires
