@@ -4,3 +4,4 @@ pub mod Digits
 pub mod Rests
 pub mod Means
 pub mod Orders
+pub mod Counts

@@ -1,16 +1,18 @@
--- Laws of scripts: how long a head is; the framing, one packet more or none, and how many there are at most.
+-- Laws of scripts: how long a head is; the framing, one packet more or none, how many there are at most, and that it is the one way to cut bytes into packets and a rest.
 -- Assumes nothing.
 use mathlib.Core.Path.{_≡_, refl, sym, ap, _∙_}
 use mathlib.Core.Bool.{Bool, true, false, cond}
-use mathlib.Core.List.{List, []}
+use mathlib.Core.List.{List, [], _∷_, _++_, append-assoc}
 use Prim.Native.Nat.{ℕ, zero, suc, _*_, _≤_, _<_}
 use native.Mathlib.Omega.{arith}
 use borrow.Author.Tests.{lt-ltb, le-ltb, ltb-true, ltb-false}
 use lib.Dec.{ltb}
-use lib.ListN.{length, take, drop, length-drop, length-take}
+use lib.ListN.{length, take, drop, length-append, length-drop, length-take, take-append-drop, List·getD-append}
+use lib.Seq.{length-take-le, take-append-seam, drop-append-seam}
+use Rattle.little_endian.specs.Bytes.{numberAt, joined}
 use Rattle.region.proofs.Sames.{same-eq}
 use Rattle.test_laws.proofs.Tests.{on-cond}
-use Rattle.script.specs.Script.{head, headed, frameLength, frontOf, Frames, packetBefore, framesUpTo, framesOf}
+use Rattle.script.specs.Script.{head, headed, frameLength, frontOf, Frames, packetBefore, framesUpTo, framesOf, Framed, Cut}
 
 -- a head has five bytes
 pub headed-long : (bytes : List ℕ) → headed bytes ≡ true → 5 ≤ length bytes
@@ -67,6 +69,54 @@ up-to-few (suc n) bytes =
 pub frames-few : (bytes : List ℕ) → 5 * length (framesOf bytes .packets) ≤ length bytes
 frames-few bytes = up-to-few (length bytes) bytes
 
+-- the core length stands in the first three bytes
+prefix-length : (p q : List ℕ) → 3 ≤ length p → frameLength (p ++ q) ≡ frameLength p
+unfolding numberAt
+prefix-length p q some = rw (List·getD-append p q 0 1 (omega arith), List·getD-append p q 0 2 (omega arith)) refl
+
+-- a packet that is cut off is as long as it says
+cut-length : (bytes : List ℕ) → frameLength bytes ≤ length bytes → length (take (frameLength bytes) bytes) ≡ frameLength (take (frameLength bytes) bytes)
+cut-length bytes whole =
+    let f = frameLength bytes in
+    let long = length-take-le f bytes whole in
+    long ∙ ap frameLength (sym (take-append-drop f bytes)) ∙ prefix-length (take f bytes) (drop f bytes) (omega (arith, long))
+
+-- a framing that has fuel enough
+up-to-cut : (n : ℕ) (bytes : List ℕ) → length bytes ≤ n → Cut bytes (framesUpTo n bytes)
+unfolding framesUpTo
+up-to-cut zero bytes few = record { joins = refl; framed = tt; ends = omega arith }
+up-to-cut (suc n) bytes few =
+    let f = frameLength bytes in
+    let left = drop f bytes in
+    let more = framesUpTo n left in
+    let c = up-to-cut n left (rw length-drop (omega arith)) in
+    on-cond (Cut bytes) (ltb (length bytes) f) (noPacket bytes) (packetBefore (take f bytes) more)
+    (λ e. record { joins = refl; framed = tt; ends = ltb-true (length bytes) f e })
+    (λ e. record {
+      joins = append-assoc (take f bytes) (joined (more .packets)) (more .rest) ∙ ap (take f bytes ++_) (c .joins) ∙ take-append-drop f bytes;
+      framed = (cut-length bytes (ltb-false (length bytes) f e), c .framed);
+      ends = c .ends;
+    })
+
+-- the framing cuts bytes into packets and a rest
+pub frames-cut : (bytes : List ℕ) → Cut bytes (framesOf bytes)
+frames-cut bytes = up-to-cut (length bytes) bytes (omega arith)
+
+-- it finds the packets that were joined
+frames-again : (packets : List (List ℕ)) (rest : List ℕ) → Framed packets → length rest < frameLength rest
+    → framesOf (joined packets ++ rest) ≡ record { packets = packets; rest = rest }
+frames-again [] rest framed ends = frames-end rest ends
+frames-again (p ∷ ps) rest framed ends =
+    let more = joined ps ++ rest in
+    let f : frameLength (p ++ more) ≡ length p = prefix-length p more (omega (arith, framed .0)) ∙ sym (framed .0) in
+    ap framesOf (append-assoc p (joined ps) rest)
+    ∙ frames-next (p ++ more) (rw (f, length-append p more) (omega arith))
+    ∙ rw (f, take-append-seam p more, drop-append-seam p more) (ap (packetBefore p) (frames-again ps rest (framed .1) ends))
+
+-- and there is no other cut
+pub cut-unique : (bytes : List ℕ) (f : Frames) → Cut bytes f → framesOf bytes ≡ f
+cut-unique bytes f c = ap framesOf (sym (c .joins)) ∙ frames-again (f .packets) (f .rest) (c .framed) (c .ends)
+
 -- a choice of 0, or not
 chosen : (test : Bool) (n : ℕ) → (n ≡ 0 → ⊥) → cond test 0 n ≡ 0 → test ≡ true
 chosen true n some e = refl
@@ -77,6 +127,13 @@ not-chosen true n some = absurd (some refl)
 not-chosen false n some = (refl, refl)
 
 module _ (bytes : List ℕ) where
+  -- the packet at the front is no longer than the bytes
+  pub front-short : frontOf bytes ≤ length bytes
+  unfolding frontOf
+  front-short =
+      let f = frameLength bytes in
+      on-cond (λ n. n ≤ length bytes) (ltb (length bytes) f) 0 f (λ _. omega arith) (λ e. ltb-false (length bytes) f e)
+
   -- no packet at the front: the bytes end inside it
   pub front-cut : frontOf bytes ≡ 0 → length bytes < frameLength bytes
   unfolding frontOf

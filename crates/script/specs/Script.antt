@@ -2,10 +2,11 @@
 -- Assumes nothing.
 use mathlib.Core.Bool.{Bool, cond}
 use mathlib.Core.List.{List, [], _∷_, _++_}
-use Prim.Native.Nat.{ℕ, zero, suc, _+_}
+use mathlib.Core.Path.{_≡_}
+use Prim.Native.Nat.{ℕ, zero, suc, _+_, _<_}
 use lib.Dec.{ltb}
 use lib.ListN.{length, take, drop}
-use Rattle.little_endian.specs.Bytes.{littleEndian}
+use Rattle.little_endian.specs.Bytes.{littleEndian, joined}
 use Rattle.packet.specs.Packet.{coreLength}
 use Rattle.region.specs.Same.{same}
 
@@ -16,6 +17,10 @@ mark = 0x42 ∷ 0x53 ∷ 0x58 ∷ []
 -- the head of a script: the mark and a 16-bit version 1, low byte first
 abbrev pub head : List ℕ
 head = mark ++ littleEndian 2 1
+
+-- the longest script that is checked
+abbrev pub longestScript : ℕ
+longestScript = 2097152
 
 -- bytes begin with a script's head
 unfoldable pub headed : List ℕ → Bool
@@ -49,3 +54,14 @@ framesUpTo (suc n) bytes =
 -- the framing: a packet has more than one byte, so there are no more packets than bytes
 abbrev pub framesOf : List ℕ → Frames
 framesOf bytes = framesUpTo (length bytes) bytes
+
+-- each packet is as long as the framing says
+abbrev pub Framed : List (List ℕ) → Type 0
+Framed [] = Unit
+Framed (packet ∷ packets) = (length packet ≡ frameLength packet) × Framed packets
+
+-- what a framing of bytes is: packets, joined, and a rest that ends inside a packet are the bytes (`frames-cut`, and `cut-unique`: there is no other)
+pub record Cut (bytes : List ℕ) (f : Frames) : Type 0 where
+  pub joins : joined (f .packets) ++ f .rest ≡ bytes
+  pub framed : Framed (f .packets)
+  pub ends : length (f .rest) < frameLength (f .rest)
