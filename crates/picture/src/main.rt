@@ -7,17 +7,6 @@ use text_image::Verdict;
 use vector_lines::show;
 ghost use Prim.Native.Nat.{_≤_};
 
-// The size that the first argument says, 0 if it says none.
-fn size_asked() -> usize {
-    let mut words = [0u8; 20];
-    let n = os::arg(1, &mut words);
-    let size = vector_lines::number_of(&words[..n]);
-    if size.past != n {
-        return 0;
-    }
-    size.value
-}
-
 // The lesser of two lengths.
 fn least(a: usize, b: usize) -> usize
     ensures { λ r. ⌜ (r ≤ a) × (r ≤ b) ⌝ }
@@ -39,7 +28,7 @@ fn write_picture(text: &[u8], size: usize, region: &mut [u8]) {
 }
 
 fn main() {
-    let size = size_asked();
+    let size = vector_lines::asked(1, 0);
     let mut text = vector_lines::text_room();
     let n = io::read_full(STDIN_FILENO, &mut text);
     let mut region = vector_lines::region_room();

@@ -1,10 +1,10 @@
 // The lines of texts: each text made, read into a region, and answered.
-use crate::words;
 use refusal::Refusal;
 use text_image::Verdict;
 use vector_lines::Number;
 use vector_lines::behind;
 use vector_lines::show;
+use vector_lines::words;
 ghost use Prim.Native.Nat.{_≤_};
 ghost use lib.ListN.{length};
 
@@ -15,11 +15,8 @@ const BEFORE: u8 = 0xA5;
 fn refused(why: Refusal, place: usize, region: &[u8]) {
     show::text(b" ");
     show::refused(refusal::number(why), place);
-    if vector_lines::every(region, BEFORE) {
-        show::text(b", kept");
-        return;
-    }
-    show::text(b", touched");
+    show::text(b",");
+    show::kept(vector_lines::every(region, BEFORE));
 }
 
 // A text read into a region.

@@ -1,11 +1,12 @@
 // What the programs have in common: lines and their labels found, numbers and bytes read from
-// words, room for a firmware text and a region, and answers printed (`show`). None of these
-// functions asks anything of its input.
+// words, the text that words stand for (`words`), numbers asked for by arguments, room for a firmware
+// text, a script and a region, and answers printed (`show`). None of these functions asks anything of its input.
 pub mod show;
+pub mod words;
 
 use firmware_text::digit_of;
 ghost use mathlib.Core.Path.{_≡_};
-ghost use Prim.Native.Nat.{_-_, _≤_};
+ghost use Prim.Native.Nat.{_-_, _<_, _≤_};
 ghost use lib.ListN.{length};
 
 // A decimal number, and the place behind its digits.
@@ -19,6 +20,13 @@ pub fn text_room() -> [u8; 1048577]
     ensures { λ r. ⌜ 1048577 ≡ length r ⌝ }
 {
     [0; 1048577]
+}
+
+// Room for the longest script that may be checked, so for every one that is planned.
+pub fn script_room() -> [u8; 2097152]
+    ensures { λ r. ⌜ 2097152 ≡ length r ⌝ }
+{
+    [0; 2097152]
 }
 
 // Room for a region one step longer than the longest, so that its size too can be asked for.
@@ -62,13 +70,20 @@ pub fn behind(words: &[u8], at: usize) -> &[u8]
     &words[at..]
 }
 
+// What stands from a place on before the next such byte.
+pub fn part_at(text: &[u8], at: usize, end: u8) -> &[u8]
+    ensures { λ r. ⌜ length (now r) ≤ length (now (text .entry)) - at ⌝ }
+{
+    let rest = behind(text, at);
+    let n = find(rest, end);
+    &rest[..n]
+}
+
 // The line from a place on, without its end.
 pub fn line_at(text: &[u8], at: usize) -> &[u8]
     ensures { λ r. ⌜ length (now r) ≤ length (now (text .entry)) - at ⌝ }
 {
-    let rest = behind(text, at);
-    let end = find(rest, b'\n');
-    &rest[..end]
+    part_at(text, at, b'\n')
 }
 
 // Prints the label of a line, and hands back what stands behind its colon and a space. A line
@@ -87,7 +102,7 @@ pub fn label(line: &[u8]) -> &[u8] {
 // The decimal number that words begin with, 0 if none. It ends before its value would need more
 // than nine digits.
 pub fn number_of(words: &[u8]) -> Number
-    ensures { λ r. ⌜ r .past ≤ length (now (words .entry)) ⌝ }
+    ensures { λ r. ⌜ (r .past ≤ length (now (words .entry))) × (r .value < 1000000000) ⌝ }
 {
     let mut value: usize = 0;
     let mut past = 0;
@@ -103,6 +118,20 @@ pub fn number_of(words: &[u8]) -> Number
         past += 1;
     }
     Number { value, past }
+}
+
+// The decimal number that an argument of the program is, or another where it is none.
+pub fn asked(argument: usize, otherwise: usize) -> usize {
+    let mut words = [0u8; 20];
+    let n = os::arg(argument, &mut words);
+    let number = number_of(&words[..n]);
+    if n == 0 {
+        return otherwise;
+    }
+    if number.past != n {
+        return otherwise;
+    }
+    number.value
 }
 
 // The byte of a space and two digits, 256 for any other three.

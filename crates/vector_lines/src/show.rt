@@ -46,3 +46,12 @@ pub fn refused(number: u8, place: usize) {
     text(b" at");
     decimal(place);
 }
+
+// Whether lent bytes are as they were.
+pub fn kept(same: bool) {
+    if same {
+        text(b" kept");
+        return;
+    }
+    text(b" touched");
+}

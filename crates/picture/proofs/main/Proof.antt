@@ -7,8 +7,8 @@ use borrow.Author.Needs.{needs}
 use Rattle.picture.proofs.main.Statement.{statement}
 use Rattle.picture.proofs.main.Tie as tie
 
-size-asked-requires : tie.Need-size-asked-requires
-size-asked-requires c κs = search needs
+asked-requires : tie.Need-asked-requires
+asked-requires c κs = search needs
 
 text-room-requires : tie.Need-text-room-requires
 text-room-requires c κs = search needs
@@ -47,7 +47,7 @@ pub main-spec : {M : Type 1} → statement M
 main-spec =
     tie.close
     (tie.spec
-    size-asked-requires
+    asked-requires
     text-room-requires
     slice-aggregate-read-full
     read-full-requires

@@ -1,13 +1,13 @@
 -- `vector_lines::number_of` meets its contract.
 -- Assumes nothing.
-use Prim.Native.Nat.{_≤_, _-_}
+use Prim.Native.Nat.{_<_, _≤_, _-_}
 use lib.ListN.{length}
 use borrow.Author.Needs.{needs}
 use Rattle.vector_lines.proofs.number_of.Statement.{statement}
 use Rattle.vector_lines.proofs.number_of.Tie as tie
 
 abbrev Inv-loop : tie.InvT-loop
-Inv-loop words value₀ past₀ value past = past ≤ length words
+Inv-loop words value₀ past₀ value past = (past ≤ length words) × (value < 1000000000)
 
 abbrev μ-loop : tie.MeasureT-loop
 μ-loop words value₀ past₀ value past = length words - past

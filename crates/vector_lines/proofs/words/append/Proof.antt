@@ -1,12 +1,12 @@
--- `texts::words::append` meets its contract.
+-- `vector_lines::words::append` meets its contract.
 -- Assumes nothing.
 use mathlib.Core.Path.{_≡_}
 use Prim.Native.Nat.{_≤_, _-_}
 use native.Mathlib.Omega.{arith}
 use lib.ListN.{length, length-set}
 use borrow.Author.Needs.{needs}
-use Rattle.texts.proofs.words.append.Statement.{statement}
-use Rattle.texts.proofs.words.append.Tie as tie
+use Rattle.vector_lines.proofs.words.append.Statement.{statement}
+use Rattle.vector_lines.proofs.words.append.Tie as tie
 
 abbrev Inv-loop : tie.InvT-loop
 Inv-loop words held text₀ n₀ i₀ text n i = (n ≤ length text) × (length text ≡ length text₀)

@@ -1,12 +1,12 @@
--- `vector_lines::line_at` meets its contract.
+-- `vector_lines::part_at` meets its contract.
 -- Assumes nothing.
 use mathlib.Core.Path.{sym}
 use native.Mathlib.Omega.{arith}
 use lib.ListN.{length-take}
 use lib.Seq.{length-take-le}
 use borrow.Author.Needs.{needs}
-use Rattle.vector_lines.proofs.line_at.Statement.{statement}
-use Rattle.vector_lines.proofs.line_at.Tie as tie
+use Rattle.vector_lines.proofs.part_at.Statement.{statement}
+use Rattle.vector_lines.proofs.part_at.Tie as tie
 
 behind-requires : tie.Need-behind-requires
 behind-requires c κs = search needs
@@ -20,5 +20,5 @@ slice-aggregate-result c = sym (length-take-le _ _ (omega arith))
 returns : tie.Need-returns
 returns c = simp length-take (omega arith)
 
-pub line-at-spec : {M : Type 1} → statement M
-line-at-spec = tie.close (tie.spec behind-requires find-requires slice-aggregate-result returns)
+pub part-at-spec : {M : Type 1} → statement M
+part-at-spec = tie.close (tie.spec behind-requires find-requires slice-aggregate-result returns)

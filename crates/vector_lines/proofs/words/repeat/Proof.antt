@@ -1,11 +1,11 @@
--- `texts::words::repeat` meets its contract.
+-- `vector_lines::words::repeat` meets its contract.
 -- Assumes nothing.
 use mathlib.Core.Path.{_≡_}
 use Prim.Native.Nat.{_≤_}
 use lib.ListN.{length}
 use borrow.Author.Needs.{needs}
-use Rattle.texts.proofs.words.repeat.Statement.{statement}
-use Rattle.texts.proofs.words.repeat.Tie as tie
+use Rattle.vector_lines.proofs.words.repeat.Statement.{statement}
+use Rattle.vector_lines.proofs.words.repeat.Tie as tie
 
 abbrev Inv-loop : tie.InvT-loop
 Inv-loop unit count held text₀ n₀ left₀ text n left = (n ≤ length text) × (length text ≡ length text₀)

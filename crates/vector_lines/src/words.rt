@@ -1,6 +1,9 @@
-// The text that the words of a line stand for.
-use vector_lines::behind;
-use vector_lines::find;
+// The text that the words of a line stand for: \n, \r, \t, \0 and \\ mean these bytes, and
+// `HEAD*COUNT UNIT*TAIL` the head, the unit so many times and the tail, where the tail may go on with a
+// star, a count and a unit.
+use crate::behind;
+use crate::number_of;
+use crate::part_at;
 ghost use Prim.Native.Nat.{_<_, _≤_};
 ghost use lib.ListN.{length};
 
@@ -74,17 +77,32 @@ fn repeat(unit: &[u8], count: usize, held: usize, text: &mut [u8]) -> usize
     n
 }
 
-// The text of a head, a count and a unit behind a star, and a tail behind a second star. Words
-// without a star are all head.
+// Puts what a part of the words stands for behind what the text has: the bytes that it means, or those
+// of a unit so many times.
+fn append_part(part: &[u8], counted: bool, held: usize, text: &mut [u8]) -> usize
+    requires { ⌜ held ≤ length (now text) ⌝ }
+    ensures { λ r. ⌜ r ≤ length (now (text .exit)) ⌝ }
+{
+    if !counted {
+        return append(part, held, text);
+    }
+    let count = number_of(part);
+    repeat(behind(part, count.past + 1), count.value, held, text)
+}
+
+// The text of words whose parts, between stars, are by turns plain and a count with a unit. The answer
+// is its length.
 pub fn text_of(words: &[u8], text: &mut [u8]) -> usize
     ensures { λ r. ⌜ r ≤ length (now (text .exit)) ⌝ }
 {
-    let star = find(words, b'*');
-    let head = append(&words[..star], 0, text);
-    let counted = behind(&words[star..], 1);
-    let count = vector_lines::number_of(counted);
-    let units = behind(counted, count.past + 1);
-    let end = find(units, b'*');
-    let n = repeat(&units[..end], count.value, head, text);
-    append(behind(&units[end..], 1), n, text)
+    let mut counted = false;
+    let mut held = 0;
+    let mut at = 0;
+    while at < words.len() {
+        let part = part_at(words, at, b'*');
+        held = append_part(part, counted, held, text);
+        counted = !counted;
+        at = at + part.len() + 1;
+    }
+    held
 }
