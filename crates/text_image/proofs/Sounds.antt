@@ -1,11 +1,16 @@
 -- What a sound text has none of.
 -- Assumes nothing.
-use Prim.Native.Nat.{ℕ}
+use Prim.Native.Nat.{ℕ, _≤_}
 use mathlib.Core.Path.{_≡_, refl, ap, _∙_}
-use mathlib.Core.List.{[]}
-use mathlib.Core.Bool.{Bool, true, false, false≢true}
+use mathlib.Core.List.{List, []}
+use mathlib.Core.Bool.{Bool, true, false, cond, false≢true}
+use borrow.Author.Tests.{ltb-false}
+use lib.Dec.{ltb}
+use lib.ListN.{length}
+use Rattle.region.specs.Size.{goodSize}
+use Rattle.firmware_text.specs.Machine.{imageOf}
 use Rattle.firmware_text.specs.Image.{Image, Fault, none, at, faultOf}
-use Rattle.text_image.specs.Rules.{outsideOf, repeatedOf, Judgement, sound, unless, imageRules, isSound}
+use Rattle.text_image.specs.Rules.{outsideOf, repeatedOf, Judgement, sound, refused, unless, longest, imageRules, rulesOf, isSound}
 
 -- a fault of the kind, or the next rule
 passed : (number : ℕ) (f : Fault) (next : Judgement) → isSound (unless number f next) ≡ true → (f ≡ none) × (isSound next ≡ true)
@@ -24,6 +29,16 @@ sound-parts n i e =
 pub parts-sound : (n : ℕ) (i : Image) → none ≡ faultOf i → none ≡ outsideOf n i → none ≡ repeatedOf [] i → isSound (imageRules n i) ≡ true
 unfolding imageRules
 parts-sound n i f o r = rw (← f, ← o, ← r)
+
+-- a sound text is no longer than the longest that is read
+pub sound-short : (text : List ℕ) (n : ℕ) → rulesOf text n ≡ sound → length text ≤ longest
+unfolding rulesOf
+sound-short text n e = go (goodSize n) (ltb longest (length text)) refl (ap isSound e)
+  where
+    go : (good long : Bool) → ltb longest (length text) ≡ long → isSound (cond good (cond long (refused 18 0) (imageRules n (imageOf text))) (refused 1 0)) ≡ true → length text ≤ longest
+    go true true h x = absurd (false≢true x)
+    go true false h x = ltb-false longest (length text) h
+    go false long h x = absurd (false≢true x)
 
 -- no fault is a fault
 pub not-none : {A : Type 0} (p : ℕ) (f : Fault) → at p ≡ f → f ≡ none → A

@@ -1,4 +1,3 @@
 pub mod Compare
-pub mod BlockParts
 pub mod Outcomes
 pub mod Means

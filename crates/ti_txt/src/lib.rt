@@ -1,7 +1,6 @@
 // The reader of firmware text (TI-TXT): it fills a lent region with the picture of a text's image, or
-// refuses and changes nothing. Beside it stands what the planner and the checker need of a text: the
-// length of the block that begins at a cursor, and whether a buffer is a text's picture, for which a
-// bit for each address serves in place of a third region.
+// refuses and changes nothing. Beside it stands what the checker needs of a text: whether a buffer is
+// its picture, for which a bit for each address serves in place of a third region.
 use refusal::Refusal;
 use text_cursor::Cursor;
 use text_cursor::Token;
@@ -14,10 +13,8 @@ ghost use lib.ListN.{length, getD};
 ghost use Rattle.region.specs.Same.{same};
 ghost use Rattle.firmware_text.specs.Machine.{imageOf};
 ghost use Rattle.address_set.specs.Bits.{marked};
-ghost use Rattle.text_cursor.specs.Walk.{rest};
 ghost use Rattle.text_image.specs.Rules.{judged, imageRules, isSound};
 ghost use Rattle.ti_txt.specs.Answers.{outcome, readOf, isPictureOf};
-ghost use Rattle.ti_txt.specs.Blocks.{blockLength};
 ghost use Rattle.text_image.specs.Picture.{pictureOf};
 ghost use Rattle.ti_txt.specs.Compared.{BlankElsewhere};
 
@@ -138,39 +135,4 @@ pub fn is_picture(text: &[u8], buffer: &[u8]) -> bool
         return false;
     }
     agrees(text, buffer)
-}
-
-// How many bytes stand next in the same segment from a cursor on, at most 256: the length of the block
-// that begins there. The cursor is a value, so the caller's own stays where it is.
-pub fn block_length(text: &[u8], start: Cursor) -> usize
-    ensures { λ r. ⌜ r ≡ blockLength 256 (rest (now (text .entry)) start) ⌝ }
-{
-    let mut count: usize = 0;
-    let mut cursor = start;
-    while count < 256 {
-        match cursor.next(text) {
-            Token::Byte {
-                place: _,
-                address: _,
-                value: _,
-                cursor: next,
-            } => {
-                cursor = next;
-            }
-            Token::Segment {
-                address: _,
-                cursor: _,
-            } => {
-                return count;
-            }
-            Token::Refused(_) => {
-                return count;
-            }
-            Token::End => {
-                return count;
-            }
-        }
-        count = count + 1;
-    }
-    count
 }
