@@ -28,7 +28,7 @@ use Rattle.planner.specs.Plan.{Left, said, refused, planned, left, putOv
 use Rattle.planner.specs.declared.Planned.{Planned}
 use Rattle.planner.specs.declared.Planned.the-variants.{Written}
 use Rattle.planner.specs.Meaning.{Wrote, PlansRight}
-use Rattle.planner.proofs.Walks.{front-length, page-parts}
+use Rattle.planner.proofs.Puts.{front-length, page-parts}
 
 -- the planner's script is never above document 01's limit
 pub script-short : (text password : List ℕ) (entry : ℕ) → length text ≤ longest → length password ≡ 256

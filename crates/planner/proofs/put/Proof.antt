@@ -8,7 +8,7 @@ use lib.ListN.{length, take, drop}
 use denote.Ref.{now}
 use Rattle.packet.specs.Packet.{Written}
 use Rattle.packet.proofs.Written.{packet-length}
-use Rattle.planner.proofs.Walks.{packet-none, packet-some, packet-part, room-nothing}
+use Rattle.planner.proofs.Puts.{packet-none, packet-some, packet-part, room-nothing}
 use borrow.Author.Needs.{needs}
 use Rattle.planner.proofs.put.Statement.{statement}
 use Rattle.planner.proofs.put.Tie as tie

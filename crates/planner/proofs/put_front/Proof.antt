@@ -9,7 +9,7 @@ use denote.Ref.{now}
 use Rattle.little_endian.specs.Bytes.{storedAt}
 use Rattle.script.specs.Script.{head}
 use Rattle.planner.specs.Walk.{putIfRoom}
-use Rattle.planner.proofs.Walks.{packet-short, room-then, unlock-core, front-parts}
+use Rattle.planner.proofs.Puts.{packet-short, room-then, unlock-core, front-parts}
 use borrow.Author.Needs.{needs}
 use Rattle.planner.proofs.put_front.Statement.{statement}
 use Rattle.planner.proofs.put_front.Tie as tie

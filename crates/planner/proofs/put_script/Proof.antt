@@ -11,7 +11,7 @@ use Rattle.firmware_text.specs.Segments.{segmentsOf}
 use Rattle.script.specs.Page.{addressed, writesOf, packetsOf}
 use Rattle.script.proofs.Pages.{writes-short}
 use Rattle.planner.specs.Walk.{putIfRoom, packetFrom, front}
-use Rattle.planner.proofs.Walks.{packet-some, room-then, front-length, page-parts}
+use Rattle.planner.proofs.Puts.{packet-some, room-then, front-length, page-parts}
 use borrow.Author.Needs.{needs}
 use Rattle.planner.proofs.put_script.Statement.{statement}
 use Rattle.planner.proofs.put_script.Tie as tie

@@ -13,7 +13,7 @@ use Rattle.firmware_text.specs.Segments.{segmentsOf}
 use Rattle.text_cursor.specs.Walk.{rest}
 use Rattle.text_cursor.proofs.Tokens.{rest-beginning, tells-so, further-so}
 use Rattle.script.specs.Page.{addressed, writesOf, packetsOf}
-use Rattle.planner.proofs.Walks.{Reaches, reach-start, reach-short, filled-more, reach-segment, reach-byte, reach-end}
+use Rattle.planner.proofs.Walks.{Reaches, reach-start, reach-allows, filled-more, reach-segment, reach-byte, reach-end}
 use borrow.Author.Needs.{needs}
 use Rattle.planner.proofs.put_writes.Statement.{statement}
 use Rattle.planner.proofs.put_writes.Tie as tie
@@ -64,10 +64,10 @@ slice-aggregate-put c = sym (length-take-le _ _ (omega arith))
 
 put-requires : tie.Need-put-requires Inv-loop μ-loop
 put-requires c κs =
-    let args = c .before .before .before .before .before .before .before .before .before .before .before .before .before .args in
+    let start = c .before .before .before .before .before .before .before .before .before .before .before .before .before in
     let l = c .before .before .before .before .before .before .loop in
-    let sized = length-take-le (l .filled) (l .core) (omega arith) in
-    (omega (arith, sized), omega arith, reach-short (now (args .text)) (args .n) (now (args .out)) _ _ (l .held) (l .out) (l .inv .3) (omega arith) (omega arith))
+    let may = reach-allows (now (start .args .text)) (start .args .n) (now (start .args .out)) _ (l .core) (l .filled) (l .held) (l .out) (l .inv .3) (l .inv .0) (l .inv .2) (start .pre .0) (start .pre .1) in
+    (may .0, omega arith, may .1)
 
 slice-aggregate-begin-2 : tie.Need-slice-aggregate-begin-2 Inv-loop μ-loop
 slice-aggregate-begin-2 c = sym (c .before .before .before .before .before .before .before .before .before .before .loop .inv .0)
@@ -105,10 +105,10 @@ slice-aggregate-put-2 c = sym (length-take-le _ _ (omega arith))
 
 put-requires-2 : tie.Need-put-requires-2 Inv-loop μ-loop
 put-requires-2 c κs =
-    let args = c .before .before .before .before .before .before .before .before .before .before .before .before .before .args in
+    let start = c .before .before .before .before .before .before .before .before .before .before .before .before .before in
     let l = c .before .before .before .before .before .before .loop in
-    let sized = length-take-le (l .filled) (l .core) (omega arith) in
-    (omega (arith, sized), omega arith, reach-short (now (args .text)) (args .n) (now (args .out)) _ _ (l .held) (l .out) (l .inv .3) (omega arith) (omega arith))
+    let may = reach-allows (now (start .args .text)) (start .args .n) (now (start .args .out)) _ (l .core) (l .filled) (l .held) (l .out) (l .inv .3) (l .inv .0) (l .inv .2) (start .pre .0) (start .pre .1) in
+    (may .0, omega arith, may .1)
 
 slice-aggregate-begin-if-full : tie.Need-slice-aggregate-begin-if-full Inv-loop μ-loop
 slice-aggregate-begin-if-full c = sym (c .before .before .before .before .before .before .before .before .before .before .loop .inv .0)
@@ -155,10 +155,10 @@ slice-aggregate-put-3 c = sym (length-take-le _ _ (omega arith))
 
 put-requires-3 : tie.Need-put-requires-3 Inv-loop μ-loop
 put-requires-3 c κs =
-    let args = c .before .before .before .before .before .before .before .before .before .before .before .before .args in
+    let start = c .before .before .before .before .before .before .before .before .before .before .before .before in
     let l = c .before .before .before .before .before .loop in
-    let sized = length-take-le (l .filled) (l .core) (omega arith) in
-    (omega (arith, sized), omega arith, reach-short (now (args .text)) (args .n) (now (args .out)) _ _ (l .held) (l .out) (l .inv .3) (omega arith) (omega arith))
+    let may = reach-allows (now (start .args .text)) (start .args .n) (now (start .args .out)) _ (l .core) (l .filled) (l .held) (l .out) (l .inv .3) (l .inv .0) (l .inv .2) (start .pre .0) (start .pre .1) in
+    (may .0, omega arith, may .1)
 
 same-length : tie.Need-same-length Inv-loop μ-loop
 same-length c = c .before .before .put3 .kept .1 .1 .1 .0 ∙ c .before .before .before .before .before .before .before .before .loop .inv .3 .sized
@@ -183,10 +183,10 @@ slice-aggregate-put-4 c = sym (length-take-le _ _ (omega arith))
 
 put-requires-4 : tie.Need-put-requires-4 Inv-loop μ-loop
 put-requires-4 c κs =
-    let args = c .before .before .before .before .before .before .before .before .before .before .before .before .args in
+    let start = c .before .before .before .before .before .before .before .before .before .before .before .before in
     let l = c .before .before .before .before .before .loop in
-    let sized = length-take-le (l .filled) (l .core) (omega arith) in
-    (omega (arith, sized), omega arith, reach-short (now (args .text)) (args .n) (now (args .out)) _ _ (l .held) (l .out) (l .inv .3) (omega arith) (omega arith))
+    let may = reach-allows (now (start .args .text)) (start .args .n) (now (start .args .out)) _ (l .core) (l .filled) (l .held) (l .out) (l .inv .3) (l .inv .0) (l .inv .2) (start .pre .0) (start .pre .1) in
+    (may .0, omega arith, may .1)
 
 same-length-2 : tie.Need-same-length-2 Inv-loop μ-loop
 same-length-2 c = c .before .before .put4 .kept .1 .1 .1 .0 ∙ c .before .before .before .before .before .before .before .before .loop .inv .3 .sized
