@@ -48,11 +48,8 @@ fn same_state(a: Card, b: Card) -> bool {
 fn refused(why: Refusal, kept: bool) {
     show::text(b" refused");
     show::decimal(refusal::number(why) as usize);
-    if kept {
-        show::text(b", kept");
-        return;
-    }
-    show::text(b", touched");
+    show::text(b",");
+    show::kept(kept);
 }
 
 // The bytes of a reply, and whether the rest of its buffer is as it was.
@@ -69,11 +66,8 @@ fn replied(count: usize, success: bool, mode: Mode, region: &[u8], reply: &[u8])
     show::text(b",");
     mode_name(mode);
     region_checksum(region);
-    if vector_lines::every(&reply[count..], BEFORE) {
-        show::text(b", rest kept");
-        return;
-    }
-    show::text(b", rest touched");
+    show::text(b", rest");
+    show::kept(vector_lines::every(&reply[count..], BEFORE));
 }
 
 // One call with just what is lent to it.

@@ -13,6 +13,7 @@ use Rattle.firmware_text.specs.Segments.{segmentsOf}
 use Rattle.text_cursor.specs.Walk.{rest}
 use Rattle.text_cursor.proofs.Tokens.{rest-beginning, tells-so, further-so}
 use Rattle.script.specs.Page.{addressed, writesOf, packetsOf}
+use Rattle.planner.specs.Walk.{putIfRoom, packetFrom}
 use Rattle.planner.proofs.Walks.{Reaches, reach-start, reach-allows, filled-more, reach-segment, reach-byte, reach-end}
 use borrow.Author.Needs.{needs}
 use Rattle.planner.proofs.put_writes.Statement.{statement}
@@ -85,13 +86,14 @@ loop-again c =
     let args = c .before .before .before .before .before .before .before .before .before .before .before .before .before .before .before .before .before .before .before .args in
     let l = c .before .before .before .before .before .before .before .before .before .before .before .before .loop in
     let p = c .before .before .before .before .before .put in
+    let put : putIfRoom (packetFrom 6 (take (l .filled) (l .core))) (l .held) (l .out) (p .result) (p .last .1 .1 .1 .0) = p .ensures in
     let begun = c .before .begin2 in
     let e = tells-so _ _ _ (c .before .before .before .before .before .before .before .before .before .before .before .next .ensures) (c .before .before .before .before .before .before .before .before .before .address .given .1) in
     let r = subst (λ (i : Image). Reaches (whole (now (args .text))) (args .n) (now (args .out)) i (take (l .filled) (l .core)) (l .held) (l .out)) (sym e) (l .inv .3) in (
       begun .kept .1 .0 ∙ l .inv .0,
       omega (arith, begun .ensures .1),
       omega (arith, begun .ensures .1),
-      reach-segment (whole (now (args .text))) (args .n) (now (args .out)) _ (l .held) (l .out) (p .result) _ (p .kept .1 .1 .1 .0) _ _ _ r (p .ensures) (begun .ensures .0),
+      reach-segment (whole (now (args .text))) (args .n) (now (args .out)) _ (l .held) (l .out) (p .result) _ (p .kept .1 .1 .1 .0) _ _ _ r put (begun .ensures .0),
     )
 
 enum-known-address-2 : tie.Need-enum-known-address-2 Inv-loop μ-loop

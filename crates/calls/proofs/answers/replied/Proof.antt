@@ -43,6 +43,12 @@ mode-name-requires c κs = search needs
 region-checksum-requires : tie.Need-region-checksum-requires
 region-checksum-requires c κs = search needs
 
+slice-aggregate-text-4 : tie.Need-slice-aggregate-text-4
+slice-aggregate-text-4 c = search needs
+
+text-requires-4 : tie.Need-text-requires-4
+text-requires-4 c κs = search needs
+
 sub-every : tie.Need-sub-every
 sub-every c = search needs
 
@@ -55,23 +61,11 @@ part-every-end c = search needs
 every-requires : tie.Need-every-requires
 every-requires c κs = search needs
 
-slice-aggregate-text-4 : tie.Need-slice-aggregate-text-4
-slice-aggregate-text-4 c = search needs
-
-text-requires-4 : tie.Need-text-requires-4
-text-requires-4 c κs = search needs
+kept-requires : tie.Need-kept-requires
+kept-requires c κs = search needs
 
 returns-2 : tie.Need-returns-2
 returns-2 c = search needs
-
-slice-aggregate-text-5 : tie.Need-slice-aggregate-text-5
-slice-aggregate-text-5 c = search needs
-
-text-requires-5 : tie.Need-text-requires-5
-text-requires-5 c κs = search needs
-
-returns-3 : tie.Need-returns-3
-returns-3 c = search needs
 
 pub replied-spec : {M : Type 1} → statement M
 replied-spec =
@@ -89,13 +83,11 @@ replied-spec =
     text-requires-3
     mode-name-requires
     region-checksum-requires
+    slice-aggregate-text-4
+    text-requires-4
     sub-every
     part-every-start
     part-every-end
     every-requires
-    slice-aggregate-text-4
-    text-requires-4
-    returns-2
-    slice-aggregate-text-5
-    text-requires-5
-    returns-3)
+    kept-requires
+    returns-2)
