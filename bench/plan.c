@@ -1,5 +1,5 @@
-/* Times the planner on four texts beside a planner in C that was written from document 01 alone, and
-   compares what the two answer and leave in the output. The texts are the same in every run. */
+/* Times the planner on four texts beside a planner in C, which follows document 01 and shares no code with
+   it, and compares what the two answer and leave in the output. The texts are the same in every run. */
 #include "common.h"
 
 /* crates/planner_c: the script's length, or the refusal's number times 2^32 and its place */

@@ -8,7 +8,7 @@ use Rattle.planner.proofs.begin_if_full.Statement.{statement}
 use Rattle.planner.proofs.begin_if_full.Tie as tie
 
 returns : tie.Need-returns
-returns c = rw (lt-leb 261 (c .before .before .args .filled) (c .if1 .taken)) (refl, omega arith, omega arith)
+returns c = rw (lt-leb 261 (c .before .before .args .filled) (omega arith)) (refl, omega arith, omega arith)
 
 begin-requires : tie.Need-begin-requires
 begin-requires c κs = search needs
