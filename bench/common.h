@@ -49,15 +49,19 @@ static struct text *made(const char *name) {
 }
 
 /* every byte of the region, 16 in a line */
-static struct text *plain(const char *name, const char *end) {
+static struct text *whole(const char *name, const uint8_t *bytes, const char *end) {
     struct text *t = made(name);
     add(t, "@0%s", end);
-    for (uint32_t a = 0; a < SIZE; a++) {
-        t->picture[a] = value_at(a);
-        add(t, "%02X%s", value_at(a), a % 16 == 15 ? end : " ");
-    }
+    for (uint32_t a = 0; a < SIZE; a++) add(t, "%02X%s", bytes[a], a % 16 == 15 ? end : " ");
     add(t, "q%s", end);
+    memcpy(t->picture, bytes, SIZE);
     return t;
+}
+
+static struct text *plain(const char *name, const char *end) {
+    static uint8_t bytes[SIZE];
+    for (uint32_t a = 0; a < SIZE; a++) bytes[a] = value_at(a);
+    return whole(name, bytes, end);
 }
 
 /* one-byte segments, as many as fit; the odd factor takes each address once, in scattered order */
@@ -81,9 +85,12 @@ static struct text *malformed(void) {
     return t;
 }
 
+/* the clock that times go by */
+static clockid_t watch = CLOCK_MONOTONIC;
+
 static double now(void) {
     struct timespec t;
-    clock_gettime(CLOCK_MONOTONIC, &t);
+    clock_gettime(watch, &t);
     return t.tv_sec * 1e9 + t.tv_nsec;
 }
 
@@ -94,9 +101,19 @@ static int rising(const void *a, const void *b) {
 
 static void sort(double *times, int count) { qsort(times, count, sizeof *times, rising); }
 
+/* the best of some times, and the median */
+struct spread {
+    double best, median;
+};
+
+static struct spread spread(double *times, int count) {
+    sort(times, count);
+    return (struct spread){times[0], (times[(count - 1) / 2] + times[count / 2]) / 2};
+}
+
 /* the best and the median of RUNS times: milliseconds, and nanoseconds for each byte of the text */
 static void show(double *times, size_t length) {
-    sort(times, RUNS);
-    double best = times[0], median = (times[RUNS / 2 - 1] + times[RUNS / 2]) / 2;
-    printf("  %6.2f %6.2f  %6.2f %6.2f", best / 1e6, median / 1e6, best / length, median / length);
+    struct spread s = spread(times, RUNS);
+    printf("  %6.2f %6.2f  %6.2f %6.2f", s.best / 1e6, s.median / 1e6, s.best / length,
+           s.median / length);
 }

@@ -3,9 +3,9 @@ use crate::answers;
 use crate::settings;
 use crate::settings::Order;
 use crate::settings::Setup;
-use crate::words;
 use card::Card;
 use vector_lines::behind;
+use vector_lines::packets;
 use vector_lines::show;
 
 // The password in the front of its room, and its length in the setup.
@@ -64,8 +64,8 @@ fn order(
     password: &mut [u8],
     region: &mut [u8],
 ) -> Setup {
-    let name = words::word_at(words, 0);
-    let n = words::bytes(behind(words, name.len()), bytes);
+    let name = packets::word_at(words, 0);
+    let n = packets::append(behind(words, name.len()), 0, bytes);
     carry_out(
         settings::order_of(name),
         &bytes[..n],

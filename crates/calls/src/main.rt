@@ -18,7 +18,6 @@
 mod answers;
 mod lines;
 mod settings;
-mod words;
 
 fn main() {
     let mut input = io::large_buffer();

@@ -1,5 +1,4 @@
 // The settings of a line: the card's state, and the lengths of what is lent to it.
-use crate::words;
 use application::Version;
 use card::Card;
 use loader::Loader;
@@ -9,6 +8,7 @@ use sensor_values::BoardStatus;
 use sensor_values::SensorRecord;
 use vector_lines::behind;
 use vector_lines::number_of;
+use vector_lines::packets;
 
 // A card, and how it is called.
 pub struct Setup {
@@ -143,7 +143,7 @@ fn set_loader(name: &[u8], value: &[u8], loader: Loader) -> Loader {
     if same(name, b"expect") {
         return Loader {
             mode,
-            expected: words::hex_of(value),
+            expected: packets::two_bytes_of(value),
         };
     }
     loader
@@ -208,7 +208,7 @@ fn set_region(name: &[u8], value: &[u8], region: &mut [u8]) {
     if !same(name, b"fill") {
         return;
     }
-    region::fill(region, words::byte_of(value));
+    region::fill(region, packets::byte_of(value));
 }
 
 // What one setting makes of a setup and of the region.
@@ -225,7 +225,7 @@ pub fn read(words: &[u8], setup: Setup, region: &mut [u8]) -> Asked {
     let mut changed = setup;
     let mut at = 0;
     while at < words.len() {
-        let name = words::word_at(words, at);
+        let name = packets::word_at(words, at);
         if !is_setting(name) {
             return Asked {
                 setup: changed,
@@ -233,7 +233,7 @@ pub fn read(words: &[u8], setup: Setup, region: &mut [u8]) -> Asked {
             };
         }
         let from = at + name.len() + 1;
-        let value = words::word_at(words, from);
+        let value = packets::word_at(words, from);
         at = from + value.len() + 1;
         changed = set(name, value, changed, region);
     }

@@ -6,7 +6,7 @@ use mathlib.Core.List.{List, [], _++_}
 use Prim.Native.Nat.{ℕ, _≤_}
 use native.Mathlib.Nat.{zero-add}
 use native.Mathlib.Omega.{arith}
-use borrow.Author.Tests.{ltb-false}
+use borrow.Author.Tests.{eq-eqb, le-ltb, ltb-false}
 use lib.Dec.{eqb, ltb}
 use lib.ListN.{length, drop}
 use Rattle.little_endian.specs.Bytes.{storedAt}
@@ -23,7 +23,7 @@ use Rattle.loader.proofs.Laws as loader
 use Rattle.loader.proofs.Replies.{reply-short}
 use Rattle.region.specs.Size.{goodSize}
 use Rattle.test_laws.proofs.Tests.{on-cond}
-use Rattle.card.specs.Call.{Said, refused, replied, isSuccess, After, after, room, withLoader, settledBy, inApplication, inLoader, callOf}
+use Rattle.card.specs.Call.{Said, refused, replied, isSuccess, After, after, room, withLoader, settledBy, inApplication, receivedBy, inLoader, callOf}
 use Rattle.card.specs.declared.Card.{Card}
 
 -- whether an answer is a refusal
@@ -171,3 +171,11 @@ module _ (card : Card) (size : ℕ) (region password message buffer : List ℕ) 
       call-cases (Answered buffer) (λ k n s e. absurd (false≢true (sym (ap isRefusal e))))
       (λ e fits. application-stands card region message buffer (rw (room-64 (card .loader .mode) e) at fits))
       (λ e fits. loader-stands card region password message buffer (rw (room-9 (card .loader .mode) e) at fits))
+
+  -- a call in a loader mode whose lent memory is not refused hands its message to the loader
+  pub call-received : isApplication (card .loader .mode) ≡ false → goodSize size ≡ true → length region ≡ size → length password ≡ 256 → 9 ≤ length buffer
+      → callOf card size region password message buffer ≡ receivedBy card buffer (receivedOf (card .loader) region password message)
+  unfolding callOf inLoader
+  call-received mode good sized wide fits =
+      let roomy : room (card .loader .mode) ≤ length buffer = rw (room-9 (card .loader .mode) mode) fits in
+      rw (good, eq-eqb (length region) size sized, eq-eqb (length password) 256 wide, le-ltb (length buffer) (room (card .loader .mode)) roomy, mode, callOf)

@@ -7,7 +7,7 @@ use native.Mathlib.Nat.{add-assoc, add-zero}
 use native.Mathlib.Omega.{arith}
 use borrow.Author.Tests.{le-leb, lt-leb}
 use lib.ListN.{length, take, drop, length-append, length-drop, drop-of-length-le, take-append-drop}
-use lib.Seq.{take-all, take-at, take-length, drop-drop, drop-append-add, length-take-le}
+use lib.Seq.{take-all, take-at, drop-at, take-length, drop-drop, drop-append-add, length-take-le}
 use Rattle.little_endian.specs.Bytes.{storedAt, putBehind, joined}
 
 module _ (at : ℕ) (new old : List ℕ) (fits : at + length new ≤ length old) where
@@ -32,6 +32,12 @@ module _ (at : ℕ) (new old : List ℕ) (fits : at + length new ≤ length old)
       ap length (stored-between ∙ sym (append-assoc (take at old) new (drop (at + length new) old)))
       ∙ length-append (take at old ++ new) (drop (at + length new) old)
       ∙ rw (front-length, length-drop) (omega arith)
+
+  -- what is behind them stays
+  pub stored-behind : drop (at + length new) (storedAt at new old) ≡ drop (at + length new) old
+  stored-behind =
+      let behind = drop (at + length new) old in
+      ap (drop (at + length new)) (stored-between ∙ sym (append-assoc (take at old) new behind)) ∙ drop-at (take at old ++ new) behind (at + length new) front-length
 
 -- new bytes that do not fit are not stored
 pub stored-not : (at : ℕ) (new old : List ℕ) → length old < at + length new → storedAt at new old ≡ old

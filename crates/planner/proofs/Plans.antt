@@ -1,7 +1,7 @@
 -- What the planner's answer says of the output; no script of a text is above document 01's limit.
 -- Assumes nothing.
 use mathlib.Core.Path.{_≡_, refl, sym, ap, _∙_}
-use mathlib.Core.Bool.{not}
+use mathlib.Core.Bool.{true, not}
 use mathlib.Core.List.{List, [], _++_}
 use Prim.Native.Nat.{ℕ, _+_, _≤_, _<_}
 use native.Mathlib.Omega.{arith}
@@ -64,9 +64,9 @@ pub plans-right : PlansRight
 unfolding planOf putOver
 plans-right text password entry n output count =
     on-cond P (not (goodSize n)) _ _ (λ _. not-planned 1 0 count)
-    (λ _. on-cond P (not (eqb (length password) 256)) _ _ (λ _. not-planned 2 0 count)
+    (λ good. on-cond P (not (eqb (length password) 256)) _ _ (λ _. not-planned 2 0 count)
     (λ wide. on-cond P (leb n entry) _ _ (λ _. not-planned 14 0 count)
-    (λ inside. judged (eqb-true _ _ (not-false _ wide)) (leb-false n entry inside) (rulesOf text n) refl)))
+    (λ inside. judged (not-false _ good) (eqb-true _ _ (not-false _ wide)) (leb-false n entry inside) (rulesOf text n) refl)))
   where
     script : List ℕ
     script = pageScript (imageOf text) password entry []
@@ -74,15 +74,17 @@ plans-right text password entry n output count =
     P : Left → Type 0
     P l = l .answer ≡ planned count → Wrote text password entry n output count (l .output)
 
-    judged : length password ≡ 256 → entry < n → (j : Judgement) → rulesOf text n ≡ j → P (ifSound j output (putOver script output))
-    judged wide inside (rules.refused number place) e = not-planned number place count
-    judged wide inside rules.sound e =
+    judged : goodSize n ≡ true → length password ≡ 256 → entry < n → (j : Judgement) → rulesOf text n ≡ j → P (ifSound j output (putOver script output))
+    judged good wide inside (rules.refused number place) e = not-planned number place count
+    judged good wide inside rules.sound e =
         on-cond P (ltb (length output) (length script)) _ _ (λ _. not-planned 13 0 count) (λ long is.
         let fits = ltb-false (length output) (length script) long in
         let same : count ≡ length script = cc in
         let stored = stored-first script output fits in
         record {
           script = script;
+          good = good;
+          wide = wide;
           from-sound = e;
           enters = inside;
           by-rules = record { ranges = []; inside = tt; written = refl };

@@ -6,6 +6,7 @@ use mathlib.Core.Path.{_≡_}
 use Prim.Native.Nat.{ℕ, _<_, _≤_}
 use lib.ListN.{length, take, drop}
 use Rattle.firmware_text.specs.Machine.{imageOf}
+use Rattle.region.specs.Size.{goodSize}
 use Rattle.script.specs.Script.{headed, framesOf, longestScript}
 use Rattle.script.specs.Page.{ByTheRules}
 use Rattle.text_image.specs.Rules.{rulesOf, sound}
@@ -14,7 +15,9 @@ use Rattle.planner.specs.Plan.{planned, planOf}
 -- a script was written over the front of an output
 pub record Wrote (text password : List ℕ) (entry n : ℕ) (before : List ℕ) (count : ℕ) (after : List ℕ) : Type 0 where
   pub script : List ℕ
-  -- its text is sound for the region, and the entry address lies in it
+  -- the size and the password's length are right, its text is sound for the region, and the entry address lies in it
+  pub good : goodSize n ≡ true
+  pub wide : length password ≡ 256
   pub from-sound : rulesOf text n ≡ sound
   pub enters : entry < n
   -- it is a script by the page's own rules, which the framing uses up, and not above document 01's limit

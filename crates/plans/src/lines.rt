@@ -6,8 +6,6 @@ use vector_lines::number_of;
 use vector_lines::part_at;
 use vector_lines::show;
 use vector_lines::words::text_of;
-ghost use mathlib.Core.Path.{_≡_};
-ghost use lib.ListN.{length};
 
 enum Order {
     Plan,
@@ -36,20 +34,9 @@ fn numbers(words: &[u8], values: &mut [u32; 4]) -> usize {
     past
 }
 
-// The bytes 0, 1, 2 .. 255, 0, 1 .. of which a password is lent.
-fn secret() -> [u8; 300]
-    ensures { λ r. ⌜ 300 ≡ length r ⌝ }
-{
-    let mut bytes = [0u8; 300];
-    for i in 0..300 {
-        bytes[i] = (i % 256) as u8;
-    }
-    bytes
-}
-
 // Lends as many bytes of password and output as are asked for.
 fn lend(asked: Asked, text: &[u8], out: &mut [u8]) {
-    let secret = secret();
+    let secret = vector_lines::secret();
     let password = asked.password as usize;
     let room = asked.room as usize;
     if secret.len() < password {

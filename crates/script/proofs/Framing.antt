@@ -3,12 +3,12 @@
 use mathlib.Core.Path.{_≡_, refl, sym, ap, _∙_}
 use mathlib.Core.Bool.{Bool, true, false, cond}
 use mathlib.Core.List.{List, [], _∷_, _++_, append-assoc}
-use Prim.Native.Nat.{ℕ, zero, suc, _*_, _≤_, _<_}
+use Prim.Native.Nat.{ℕ, zero, suc, _+_, _*_, _-_, _≤_, _<_}
 use native.Mathlib.Omega.{arith}
 use borrow.Author.Tests.{lt-ltb, le-ltb, ltb-true, ltb-false}
 use lib.Dec.{ltb}
 use lib.ListN.{length, take, drop, length-append, length-drop, length-take, take-append-drop, List·getD-append}
-use lib.Seq.{length-take-le, take-append-seam, drop-append-seam}
+use lib.Seq.{length-take-le, take-all, take-append-seam, drop-append-seam}
 use Rattle.little_endian.specs.Bytes.{numberAt, joined}
 use Rattle.region.proofs.Sames.{same-eq}
 use Rattle.test_laws.proofs.Tests.{on-cond}
@@ -148,3 +148,16 @@ module _ (bytes : List ℕ) where
       let f = frameLength bytes in
       let t = not-chosen (ltb (length bytes) f) f some in
       (t .0, ltb-false (length bytes) f (t .1))
+
+-- the part of a list from a place to its end
+pub part-tail : (l : List ℕ) (at : ℕ) → take (length l - at) (drop at l) ≡ drop at l
+part-tail l at = take-all (length l - at) (drop at l) (rw (length-drop at l) (omega arith))
+
+-- a packet that is found at the front of that part
+pub front-inside : (l : List ℕ) (at k : ℕ) → at ≤ length l → k ≡ frontOf (take (length l - at) (drop at l)) → (k ≡ 0 → ⊥)
+    → (k ≡ frameLength (drop at l)) × (at + k ≤ length l)
+front-inside l at k inside is some =
+    let found : k ≡ frontOf (drop at l) = is ∙ ap frontOf (part-tail l at) in
+    let w = front-whole (drop at l) (λ z. some (found ∙ z)) in
+    let fits : k ≤ length l - at = rw (found ∙ w .0, ← (length-drop at l)) (w .1) in
+    (found ∙ w .0, omega arith)

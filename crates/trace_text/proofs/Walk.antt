@@ -8,13 +8,13 @@ use native.Mathlib.Omega.{arith}
 use borrow.Author.Tests.{eqb-true, ltb-false}
 use lib.Dec.{eqb, ltb}
 use lib.ListN.{length, take, drop, replicate, length-drop, length-append}
-use lib.Seq.{drop-drop, length-take-le, take-all}
+use lib.Seq.{drop-drop, length-take-le}
 use Rattle.loader.specs.Loader.{Outcome, isApplication, receivedOf}
 use Rattle.loader.specs.declared.Loader.{Loader}
 use Rattle.loader.specs.declared.Mode.{Mode}
 use Rattle.loader.specs.declared.Mode.the-variants.{Application, Locked, Unlocked}
 use Rattle.script.specs.Script.{headed, frameLength, frontOf, packetBefore, framesOf}
-use Rattle.script.proofs.Framing.{frames-end, frames-next, frames-few, front-cut, front-whole}
+use Rattle.script.proofs.Framing.{frames-end, frames-next, frames-few, front-cut}
 use Rattle.test_laws.proofs.Tests.{on-cond}
 use Rattle.little_endian.specs.Bytes.{putBehind}
 use Rattle.little_endian.proofs.Stored.{put-then}
@@ -46,19 +46,6 @@ cut-ending Unlocked (b ∷ rest) e = refl
 none-left : (bytes : List ℕ) → length bytes ≡ 0 → bytes ≡ []
 none-left [] e = refl
 none-left (b ∷ bytes) e = absurd (omega (arith, e))
-
--- the part of a list from a place to its end
-pub part-tail : (l : List ℕ) (at : ℕ) → take (length l - at) (drop at l) ≡ drop at l
-part-tail l at = take-all (length l - at) (drop at l) (rw (length-drop at l) (omega arith))
-
--- a packet that is found at the front of that part
-pub front-inside : (l : List ℕ) (at k : ℕ) → at ≤ length l → k ≡ frontOf (take (length l - at) (drop at l)) → (k ≡ 0 → ⊥)
-    → (k ≡ frameLength (drop at l)) × (at + k ≤ length l)
-front-inside l at k inside is some =
-    let found : k ≡ frontOf (drop at l) = is ∙ ap frontOf (part-tail l at) in
-    let w = front-whole (drop at l) (λ z. some (found ∙ z)) in
-    let fits : k ≤ length l - at = rw (found ∙ w .0, ← (length-drop at l)) (w .1) in
-    (found ∙ w .0, omega arith)
 
 -- one of two tests
 either : (a b : Bool) → a || b ≡ true → (a ≡ false → b ≡ true)

@@ -1,6 +1,8 @@
 // What the programs have in common: lines and their labels found, numbers and bytes read from
-// words, the text that words stand for (`words`), numbers asked for by arguments, room for a firmware
-// text, a script and a region, and answers printed (`show`). None of these functions asks anything of its input.
+// words, the text that words stand for (`words`), bytes and packets (`packets`), numbers asked for by
+// arguments, a password, room for a firmware text, a script and a region, and answers printed (`show`). None
+// of these functions asks anything of its input.
+pub mod packets;
 pub mod show;
 pub mod words;
 
@@ -22,11 +24,12 @@ pub fn text_room() -> [u8; 1048577]
     [0; 1048577]
 }
 
-// Room for the longest script that may be checked, so for every one that is planned.
-pub fn script_room() -> [u8; 2097152]
-    ensures { λ r. ⌜ 2097152 ≡ length r ⌝ }
+// Room for a script one byte longer than any that is checked, so that a longer one is seen, and for every
+// one that is planned.
+pub fn script_room() -> [u8; 2097153]
+    ensures { λ r. ⌜ 2097153 ≡ length r ⌝ }
 {
-    [0; 2097152]
+    [0; 2097153]
 }
 
 // Room for a region one step longer than the longest, so that its size too can be asked for.
@@ -34,6 +37,17 @@ pub fn region_room() -> [u8; 266240]
     ensures { λ r. ⌜ 266240 ≡ length r ⌝ }
 {
     [0; 266240]
+}
+
+// The bytes 0, 1, 2 .. 255, 0, 1 .. of which a password is lent.
+pub fn secret() -> [u8; 300]
+    ensures { λ r. ⌜ 300 ≡ length r ⌝ }
+{
+    let mut bytes = [0u8; 300];
+    for i in 0..300 {
+        bytes[i] = (i % 256) as u8;
+    }
+    bytes
 }
 
 // The place of the first such byte, or the end.

@@ -11,10 +11,11 @@ use denote.Ref.{now}
 use Rattle.little_endian.proofs.Stored.{stored-nothing}
 use Rattle.loader.specs.Loader.{receivedOf}
 use Rattle.script.specs.Script.{frontOf, framesOf}
+use Rattle.script.proofs.Framing.{part-tail, front-inside}
 use Rattle.little_endian.specs.Bytes.{putBehind}
 use Rattle.trace_text.specs.Trace.{lineOf, linesAt}
 use Rattle.trace_text.specs.declared.Ending.the-variants.{InMode, Cut}
-use Rattle.trace_text.proofs.Walk.{over, part-tail, front-inside, lines-over, lines-cut, Reaches, reach-short, reach-end, reach-next}
+use Rattle.trace_text.proofs.Walk.{over, lines-over, lines-cut, Reaches, reach-short, reach-end, reach-next}
 use borrow.Author.Needs.{needs}
 use Rattle.trace_text.proofs.append_packets.Statement.{statement}
 use Rattle.trace_text.proofs.append_packets.Tie as tie

@@ -7,7 +7,7 @@ use Rattle.vector_lines.proofs.script_room.Statement.{statement}
 use Rattle.vector_lines.proofs.script_room.Tie as tie
 
 returns : tie.Need-returns
-returns c = sym (length-replicate {0} {A = ℕ} 2097152 0)
+returns c = sym (length-replicate {0} {A = ℕ} 2097153 0)
 
 pub script-room-spec : {M : Type 1} → statement M
 script-room-spec = tie.close (tie.spec returns)

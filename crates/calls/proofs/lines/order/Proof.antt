@@ -13,8 +13,8 @@ word-at-requires c κs = search needs
 behind-requires : tie.Need-behind-requires
 behind-requires c κs = search needs
 
-bytes-requires : tie.Need-bytes-requires
-bytes-requires c κs = search needs
+append-requires : tie.Need-append-requires
+append-requires c κs = search needs
 
 order-of-requires : tie.Need-order-of-requires
 order-of-requires c κs = search needs
@@ -46,7 +46,7 @@ order-spec =
     (tie.spec
     word-at-requires
     behind-requires
-    bytes-requires
+    append-requires
     order-of-requires
     slice-reshare-prefix-carry-out
     slice-aggregate-carry-out

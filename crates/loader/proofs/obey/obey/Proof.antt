@@ -1,7 +1,10 @@
 -- `loader::obey::obey` meets its contract: the lock holds the command back, or it does not.
 -- Assumes nothing.
-use mathlib.Core.Path.{refl}
-use Rattle.loader.specs.Loader.{obeyedOf}
+use mathlib.Core.Path.{_≡_, refl}
+use mathlib.Core.Bool.{true, not, _&&_}
+use denote.Ref.{now}
+use Rattle.packet.specs.Packet.{commandOf}
+use Rattle.loader.specs.Loader.{isUnlocked, wantsUnlocked, obeyedOf}
 use borrow.Author.Needs.{needs}
 use Rattle.loader.proofs.obey.obey.Statement.{statement}
 use Rattle.loader.proofs.obey.obey.Tie as tie
@@ -17,7 +20,11 @@ wants-unlocked-requires c κs = search needs
 
 returns : tie.Need-returns
 unfolding obeyedOf
-returns c = rw (← (c .before .before .before .command-of .ensures), ← (c .before .wants-unlocked .ensures), ← (c .before .before .is-unlocked .ensures), c .if1 .taken) refl
+returns c =
+    let a = c .before .before .before .before .before .before .before .args in
+    let held : (wantsUnlocked (commandOf (now (a .core))) && not (isUnlocked (a .loader .mode))) ≡ true =
+    rw (← (c .before .before .before .command-of .ensures), ← (c .before .wants-unlocked .ensures), ← (c .before .before .is-unlocked .ensures)) (c .if1 .taken) in
+    rw held refl
 
 act-requires : tie.Need-act-requires
 act-requires c κs = search needs

@@ -1,0 +1,9 @@
+pub mod Agree
+pub mod Step
+pub mod Runs
+pub mod Sent
+pub mod Exact
+pub mod Blank
+pub mod Cores
+pub mod Page
+pub mod Demand

@@ -1,0 +1,4 @@
+pub mod Check
+pub mod Sending
+pub mod Demand
+pub mod Beside
