@@ -38,13 +38,13 @@ pub record Trial : Type 0 where
   pub loader : Loader
   pub region : List ℕ
 
--- a locked loader that expects a checksum
-abbrev pub locked : ℕ → Loader
-locked expected = record { mode = Locked; expected = expected }
-
 -- the two together
 abbrev pub trial : Loader → List ℕ → Trial
 trial loader region = record { loader = loader; region = region }
+
+-- a locked loader that expects a checksum
+abbrev pub locked : ℕ → Loader
+locked expected = record { mode = Locked; expected = expected }
 
 -- what a packet does in a trial run, which is what it does to any loader
 abbrev pub ranOn : List ℕ → List ℕ → Trial → Outcome
@@ -96,7 +96,7 @@ endOf started rest at =
 abbrev pub found : Said → ℕ → Trial → Trial → Checked
 found answer n zeros ones = checked answer n (zeros .region) (ones .region)
 
--- the packets from a place on, after n that succeeded in both runs, for what the framing left behind them
+-- the packets that are left, from a place on, after n that succeeded in both runs; behind them is what the framing left
 unfoldable pub runFrom : List ℕ → List ℕ → Trial → Trial → ℕ → ℕ → List ℕ → List (List ℕ) → Checked
 runFrom password picture zeros ones at n rest [] = found (endOf (isApplication (zeros .loader .mode)) rest at) n zeros ones
 runFrom password picture zeros ones at n rest (packet ∷ packets) =
@@ -120,7 +120,7 @@ abbrev pub ifSound : Judgement → Said → Said
 ifSound rules.sound next = next
 ifSound (rules.refused number place) next = refused number place
 
--- what is judged before any packet: refusals 1, 2, 18, those of the text, which are 18, 3, 4 and 5, and 6
+-- what is judged before any packet, with trial buffers of two lengths: refusals 1, 2, 18, those of the text, which are 18, 3, 4 and 5, and 6
 unfoldable pub judgedOf : List ℕ → List ℕ → List ℕ → ℕ → ℕ → ℕ → Said
 judgedOf script text password n zeros ones =
     cond (not (goodSize n && (eqb zeros n && eqb ones n))) (refused 1 0)
