@@ -7,3 +7,4 @@ pub mod Blank
 pub mod Cores
 pub mod Page
 pub mod Demand
+pub mod Counts

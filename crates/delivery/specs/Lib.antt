@@ -2,3 +2,4 @@ pub mod Check
 pub mod Sending
 pub mod Demand
 pub mod Beside
+pub mod Meaning
