@@ -7,7 +7,7 @@ use Prim.Native.Nat.{ℕ, _≤_}
 use borrow.Author.Tests.{eqb-true, ltb-false, not-false}
 use lib.Dec.{eqb, ltb}
 use lib.ListN.{length}
-use Rattle.delivery.specs.Check.{Said, passed, refused, Checked, checked, runOf, ifSound, judgedOf, unlessRefused, checkOf}
+use Rattle.delivery.specs.Check.{Said, passed, refused, Checked, runOf, ifSound, judgedOf, unlessRefused, checkOf}
 use Rattle.delivery.specs.Demand.{Limits, Upholds}
 use Rattle.delivery.proofs.Demand.{demand3}
 use Rattle.delivery.proofs.Runs.{no-pass}
@@ -20,7 +20,7 @@ use Rattle.text_image.specs.Rules.{Judgement, rulesOf}
 use Rattle.text_image.specs.Rules as rules
 
 -- what is known where nothing was refused before the packets
-pub record Ready (script text password : List ℕ) (n zeros ones : ℕ) : Type 0 where
+pub record Judged (script text : List ℕ) (n zeros ones : ℕ) : Type 0 where
   pub zeros-sized : zeros ≡ n
   pub ones-sized : ones ≡ n
   pub short : length script ≤ longestScript
@@ -28,37 +28,31 @@ pub record Ready (script text password : List ℕ) (n zeros ones : ℕ) : Type 0
   pub begins : headed script ≡ true
 
 module _ (script text password : List ℕ) (n zeros ones : ℕ) where
-  pub judged-ready : judgedOf script text password n zeros ones ≡ passed → Ready script text password n zeros ones
+  pub said-passed : judgedOf script text password n zeros ones ≡ passed → Judged script text n zeros ones
   unfolding judgedOf
-  judged-ready =
+  said-passed =
       on-cond P (not (goodSize n && (eqb zeros n && eqb ones n))) _ _ (λ _. no-pass 1 0)
       (λ sizes. on-cond P (not (eqb (length password) 256)) _ _ (λ _. no-pass 2 0)
       (λ _. on-cond P (ltb longestScript (length script)) _ _ (λ _. no-pass 18 0)
       (λ short. judged (both (eqb zeros n) (eqb ones n) (both (goodSize n) (eqb zeros n && eqb ones n) (not-false _ sizes) .1)) (ltb-false _ _ short) (rulesOf text n) refl)))
     where
       P : Said → Type 0
-      P s = s ≡ passed → Ready script text password n zeros ones
+      P s = s ≡ passed → Judged script text n zeros ones
 
-      judged : (eqb zeros n ≡ true) × (eqb ones n ≡ true) → length script ≤ longestScript → (j : Judgement) → rulesOf text n ≡ j → ifSound j (cond (headed script) passed (refused 6 0)) ≡ passed → Ready script text password n zeros ones
+      judged : (eqb zeros n ≡ true) × (eqb ones n ≡ true) → length script ≤ longestScript → (j : Judgement) → rulesOf text n ≡ j → ifSound j (cond (headed script) passed (refused 6 0)) ≡ passed → Judged script text n zeros ones
       judged sizes short (rules.refused number place) e is = no-pass number place is
       judged sizes short rules.sound e is = head (headed script) refl is
         where
-          head : (t : Bool) → headed script ≡ t → cond t passed (refused 6 0) ≡ passed → Ready script text password n zeros ones
+          head : (t : Bool) → headed script ≡ t → cond t passed (refused 6 0) ≡ passed → Judged script text n zeros ones
           head true begins is = record { zeros-sized = eqb-true zeros n (sizes .0); ones-sized = eqb-true ones n (sizes .1); short = short; from-sound = e; begins = begins }
           head false begins is = no-pass 6 0 is
 
 module _ (script text password : List ℕ) (expected n : ℕ) (zeros ones : List ℕ) where
-  -- a refusal before the packets
-  pub check-refused : (number place : ℕ) → judgedOf script text password n (length zeros) (length ones) ≡ refused number place
-      → checked (refused number place) 0 zeros ones ≡ checkOf script text password expected n zeros ones
+  -- what was said before the packets decides: a refusal, or the packets' run
+  pub check-by : (s : Said) → judgedOf script text password n (length zeros) (length ones) ≡ s
+      → unlessRefused s zeros ones (runOf script (pictureOf n (imageOf text)) password expected n) ≡ checkOf script text password expected n zeros ones
   unfolding checkOf
-  check-refused number place e = ap (λ (s : Said). unlessRefused s zeros ones (runOf script (pictureOf n (imageOf text)) password expected n)) (sym e)
-
-  -- no refusal, and the packets' run
-  pub check-run : judgedOf script text password n (length zeros) (length ones) ≡ passed
-      → runOf script (pictureOf n (imageOf text)) password expected n ≡ checkOf script text password expected n zeros ones
-  unfolding checkOf
-  check-run e = ap (λ (s : Said). unlessRefused s zeros ones (runOf script (pictureOf n (imageOf text)) password expected n)) (sym e)
+  check-by s e = ap (λ (x : Said). unlessRefused x zeros ones (runOf script (pictureOf n (imageOf text)) password expected n)) (sym e)
 
   -- what is answered, and what it is worth
   pub upheld : (c : Checked) → c ≡ checkOf script text password expected n zeros ones

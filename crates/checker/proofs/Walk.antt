@@ -15,32 +15,8 @@ use Rattle.delivery.proofs.Agree.{agree-start}
 use Rattle.delivery.proofs.Exact.{beside-next}
 use Rattle.delivery.proofs.Runs.{step-done, done-step, step-refused, run-next, run-refused, run-started, some-left}
 use Rattle.loader.specs.Loader.{isApplication}
-use Rattle.refusal.specs.Refusal.{numberOf}
-use Rattle.refusal.specs.declared.Refusal.{Refusal}
-use Rattle.refusal.specs.declared.Refusal.the-variants.{RegionSize, PasswordLength, EntryOutside, TooLong, TextMalformed, AddressOutside, AddressRepeated, OutputShort, ScriptHead, PacketCut, PictureDiffers, RefusedOverZeros, RefusedOverOnes, BytesAfterStart, NotStarted, RequestUnknown, RequestForOtherCard, RecordUnsound}
 use Rattle.script.specs.Script.{frameLength, frontOf, framesOf}
 use Rattle.script.proofs.Framing.{frames-end, frames-next, front-cut, part-tail}
-
--- no refusal has the number 0
-pub some-number : (why : Refusal) → eqb (numberOf why) 0 ≡ false
-some-number RegionSize = refl
-some-number PasswordLength = refl
-some-number EntryOutside = refl
-some-number TooLong = refl
-some-number TextMalformed = refl
-some-number AddressOutside = refl
-some-number AddressRepeated = refl
-some-number OutputShort = refl
-some-number ScriptHead = refl
-some-number PacketCut = refl
-some-number PictureDiffers = refl
-some-number RefusedOverZeros = refl
-some-number RefusedOverOnes = refl
-some-number BytesAfterStart = refl
-some-number NotStarted = refl
-some-number RequestUnknown = refl
-some-number RequestForOtherCard = refl
-some-number RecordUnsound = refl
 
 module _ (password picture : List ℕ) (zeros ones : Trial) (at n : ℕ) (bytes : List ℕ) where
   -- no packet is left
@@ -49,7 +25,7 @@ module _ (password picture : List ℕ) (zeros ones : Trial) (at n : ℕ) (bytes 
   run-unpacked cut = ap (runAt password picture zeros ones at n) (frames-end bytes cut)
 
   -- the firmware started
-  pub run-over : isApplication (zeros .loader .mode) ≡ true → runAt password picture zeros ones at n (framesOf bytes) ≡ found (endOf true bytes at) n zeros ones
+  run-over : isApplication (zeros .loader .mode) ≡ true → runAt password picture zeros ones at n (framesOf bytes) ≡ found (endOf true bytes at) n zeros ones
   run-over started = go (ltb (length bytes) (frameLength bytes)) refl
     where
       go : (t : Bool) → ltb (length bytes) (frameLength bytes) ≡ t → runAt password picture zeros ones at n (framesOf bytes) ≡ found (endOf true bytes at) n zeros ones
@@ -60,7 +36,7 @@ module _ (password picture : List ℕ) (zeros ones : Trial) (at n : ℕ) (bytes 
           ∙ run-started password picture zeros ones at n _ _ _ started bytes (some-left bytes (λ z. omega (arith, z)))
 
   -- the script ends, or ends inside a packet
-  pub run-cut : isApplication (zeros .loader .mode) ≡ false → frontOf bytes ≡ 0 → runAt password picture zeros ones at n (framesOf bytes) ≡ found (endOf false bytes at) n zeros ones
+  run-cut : isApplication (zeros .loader .mode) ≡ false → frontOf bytes ≡ 0 → runAt password picture zeros ones at n (framesOf bytes) ≡ found (endOf false bytes at) n zeros ones
   run-cut inloader none = run-unpacked (front-cut bytes none) ∙ ap (λ (t : Bool). found (endOf t bytes at) n zeros ones) inloader
 
   module _ (k : ℕ) (is : k ≡ frameLength bytes) (whole : k ≤ length bytes) (inloader : isApplication (zeros .loader .mode) ≡ false) where
@@ -69,7 +45,7 @@ module _ (password picture : List ℕ) (zeros ones : Trial) (at n : ℕ) (bytes 
     framed = ap (runAt password picture zeros ones at n) (rw is (frames-next bytes (rw is at whole)))
 
     -- a packet that is refused
-    pub run-faulty : (fault : ℕ) (z o : Trial) → eqb fault 0 ≡ false → step fault z o ≡ stepOf password picture (take k bytes) zeros ones
+    run-faulty : (fault : ℕ) (z o : Trial) → eqb fault 0 ≡ false → step fault z o ≡ stepOf password picture (take k bytes) zeros ones
         → (runAt password picture zeros ones at n (framesOf bytes) ≡ found (refused fault at) n z o)
     run-faulty fault z o some e =
         let same = ap (λ (s : Step). s .fault) (sym e) in
@@ -78,7 +54,7 @@ module _ (password picture : List ℕ) (zeros ones : Trial) (at n : ℕ) (bytes 
         ∙ ap (λ (s : Step). found (refused fault at) n (s .zeros) (s .ones)) (sym kept)
 
     -- one that is a success in both runs
-    pub run-on : (z o : Trial) → step 0 z o ≡ stepOf password picture (take k bytes) zeros ones
+    run-on : (z o : Trial) → step 0 z o ≡ stepOf password picture (take k bytes) zeros ones
         → runAt password picture zeros ones at n (framesOf bytes) ≡ runAt password picture z o (at + k) (n + 1) (framesOf (drop k bytes))
     run-on z o e =
         let done = step-done password picture (take k bytes) zeros ones (ap (λ (s : Step). s .fault) (sym e)) in

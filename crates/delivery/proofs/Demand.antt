@@ -1,7 +1,7 @@
 -- Demand 3, proved; and that what the planner writes, the checker passes.
 -- Assumes nothing.
 use mathlib.Core.Path.{_≡_, refl, sym, ap, _∙_, subst}
-use mathlib.Core.Bool.{Bool, true, false, cond, false≢true}
+use mathlib.Core.Bool.{Bool, true, false, cond}
 use mathlib.Core.List.{List, []}
 use Prim.Native.Nat.{ℕ, _<_}
 use native.Mathlib.Nat.{le-refl}
@@ -22,9 +22,9 @@ use Rattle.script.specs.Page.{Range, pageScript, Inside, ByTheRules}
 use Rattle.script.specs.Script.{longestScript, headed, Frames, framesOf}
 use Rattle.script.proofs.Pages.{page-headed, page-framed}
 use Rattle.text_image.specs.Picture.{placed, pictureOf}
-use Rattle.text_image.specs.Rules.{sound, refused, longest, imageRules, rulesOf, isSound}
+use Rattle.text_image.specs.Rules.{sound, refused, rulesOf}
 use Rattle.text_image.proofs.Pictures.{length-placed}
-use Rattle.text_image.proofs.Sounds.{sound-parts}
+use Rattle.text_image.proofs.Sounds.{sound-parts, sound-image}
 use Rattle.delivery.specs.Check.{passed, Checked, Trial, trial, locked, judgedOf, unlessRefused, runFrom, runOf, checkOf}
 use Rattle.delivery.specs.Check as check
 use Rattle.delivery.specs.Sending.{packetsIn, callsOf, Delivers, Entered, Roomy, Works}
@@ -101,19 +101,10 @@ within script text password expected n zeros ones l =
 
 -- a sound text has an image that an erased region takes
 module _ (text : List ℕ) (n : ℕ) where
-  sound-image : rulesOf text n ≡ sound → isSound (imageRules n (imageOf text)) ≡ true
-  unfolding rulesOf
-  sound-image e = go (goodSize n) (ltb longest (length text)) (ap isSound e)
-    where
-      go : (s t : Bool) → isSound (cond s (cond t (refused 18 0) (imageRules n (imageOf text))) (refused 1 0)) ≡ true → isSound (imageRules n (imageOf text)) ≡ true
-      go true true x = absurd (false≢true x)
-      go true false x = x
-      go false t x = absurd (false≢true x)
-
   takes : rulesOf text n ≡ sound → Ready n (replicate n 0xFF) (past (imageOf text)) × (placed (past (imageOf text)) (replicate n 0xFF) ≡ pictureOf n (imageOf text))
   unfolding pictureOf
   takes e =
-      let p = sound-parts n (imageOf text) (sound-image e) in
+      let p = sound-parts n (imageOf text) (sound-image text n e) in
       let first = image-starts text in
       subst (λ (bytes : List ℕ). Ready n (sets (replicate n 0xFF) 0 bytes) (past (imageOf text)) × (placed (past (imageOf text)) (sets (replicate n 0xFF) 0 bytes) ≡ placed (imageOf text) (replicate n 0xFF))) (first .0)
       (ahead-put n (replicate n 0xFF) (imageOf text) 0 (ready-erased n (imageOf text) (p .1) (p .2) (image-in-order text) (image-valued text)) (first .1 0))

@@ -30,6 +30,7 @@ Ok o = succeededOf (o .reply) ≡ true
 
 -- ---- a success over zeros
 
+-- the command is a start
 abbrev isStart : Command → Bool
 isStart Password = false
 isStart Erase = false

@@ -1,8 +1,12 @@
--- No two refusals have one number, so a promise that gives the number gives the refusal.
+-- No two refusals have one number, so a promise that gives the number gives the refusal; and none has the number 0.
 -- Assumes nothing.
 use mathlib.Core.Path.{_≡_, refl, sym, ap, _∙_}
 use mathlib.Core.List.{List, [], _∷_}
+use mathlib.Core.Bool.{false}
 use Prim.Native.Nat.{ℕ}
+use native.Mathlib.Omega.{arith}
+use borrow.Author.Tests.{ne-eqb}
+use lib.Dec.{eqb}
 use lib.ListN.{getD}
 use Rattle.refusal.specs.Refusal.{numberOf}
 use Rattle.refusal.specs.declared.Refusal.{Refusal}
@@ -42,3 +46,8 @@ named-again the.RecordUnsound = refl
 
 pub distinct : (a b : Refusal) → numberOf a ≡ numberOf b → a ≡ b
 distinct a b same = sym (named-again a) ∙ ap named same ∙ named-again b
+
+-- no refusal has the number 0, so that 0 can stand for none
+pub some-number : (r : Refusal) → eqb (numberOf r) 0 ≡ false
+unfolding named
+some-number r = ne-eqb (numberOf r) 0 (λ zero. absurd (omega (arith, zero, ap numberOf (sym (named-again r) ∙ ap named zero))))

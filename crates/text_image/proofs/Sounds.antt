@@ -30,15 +30,23 @@ pub parts-sound : (n : ℕ) (i : Image) → none ≡ faultOf i → none ≡ outs
 unfolding imageRules
 parts-sound n i f o r = rw (← f, ← o, ← r)
 
--- a sound text is no longer than the longest that is read
-pub sound-short : (text : List ℕ) (n : ℕ) → rulesOf text n ≡ sound → length text ≤ longest
-unfolding rulesOf
-sound-short text n e = go (goodSize n) (ltb longest (length text)) refl (ap isSound e)
-  where
-    go : (good long : Bool) → ltb longest (length text) ≡ long → isSound (cond good (cond long (refused 18 0) (imageRules n (imageOf text))) (refused 1 0)) ≡ true → length text ≤ longest
-    go true true h x = absurd (false≢true x)
-    go true false h x = ltb-false longest (length text) h
-    go false long h x = absurd (false≢true x)
+-- a sound text is no longer than the longest that is read, and its image keeps the rules
+module _ (text : List ℕ) (n : ℕ) (e : rulesOf text n ≡ sound) where
+  both-rules : (length text ≤ longest) × (isSound (imageRules n (imageOf text)) ≡ true)
+  unfolding rulesOf
+  both-rules = go (goodSize n) (ltb longest (length text)) refl (ap isSound e)
+    where
+      go : (good long : Bool) → ltb longest (length text) ≡ long → isSound (cond good (cond long (refused 18 0) (imageRules n (imageOf text))) (refused 1 0)) ≡ true
+          → (length text ≤ longest) × (isSound (imageRules n (imageOf text)) ≡ true)
+      go true true h x = absurd (false≢true x)
+      go true false h x = (ltb-false longest (length text) h, x)
+      go false long h x = absurd (false≢true x)
+
+  pub sound-short : length text ≤ longest
+  sound-short = both-rules .0
+
+  pub sound-image : isSound (imageRules n (imageOf text)) ≡ true
+  sound-image = both-rules .1
 
 -- no fault is a fault
 pub not-none : {A : Type 0} (p : ℕ) (f : Fault) → at p ≡ f → f ≡ none → A

@@ -4,7 +4,7 @@ use mathlib.Core.Path.{_≡_, sym, ap, _∙_}
 use Prim.Native.Nat.{ℕ}
 use lib.ListN.{length, replicate}
 use denote.Ref.{now}
-use Rattle.delivery.specs.Check.{checked, runOf}
+use Rattle.delivery.specs.Check.{passed, refused, checked, runOf}
 use Rattle.firmware_text.specs.Machine.{imageOf}
 use Rattle.refusal.specs.Refusal.{numberOf}
 use Rattle.script.proofs.Framing.{headed-long}
@@ -12,7 +12,7 @@ use Rattle.text_image.specs.Picture.{pictureOf}
 use Rattle.text_image.specs.Rules.{rulesOf}
 use Rattle.checker.specs.Answers.{said}
 use Rattle.checker.specs.declared.Answer.{Answer}
-use Rattle.checker.proofs.Checks.{judged-ready, check-refused, check-run, upheld}
+use Rattle.checker.proofs.Checks.{said-passed, check-by, upheld}
 use borrow.Author.Needs.{needs}
 use Rattle.checker.proofs.check.Statement.{statement}
 use Rattle.checker.proofs.check.Tie as tie
@@ -38,7 +38,7 @@ fill-requires-2 c κs = search needs
 run-requires : tie.Need-run-requires
 run-requires c κs = let s = c .before .before .before .before .before .before .before .before .before .before .before .before .before .before .before .before .before .before .before .before in
     let ok = sym (c .before .before .before .before .before .before .before .before .before .before .before .before .judge .ensures) ∙ ap said (c .before .before .before .before .before .before .before .before .before .before .enum-told .given .1) in
-    let r = judged-ready (now (s .args .script)) (now (s .args .text)) (now (s .args .password)) (s .args .size) (length (now (s .args .zeros))) (length (now (s .args .ones))) ok in
+    let r = said-passed (now (s .args .script)) (now (s .args .text)) (now (s .args .password)) (s .args .size) (length (now (s .args .zeros))) (length (now (s .args .ones))) ok in
     let long : length (c .before .before .before .before .before .before .before .before .fill .last .0) ≡ s .args .size = c .before .before .before .before .before .before .before .before .fill .kept .0 ∙ r .zeros-sized in (
       headed-long _ (r .begins),
       r .short,
@@ -59,7 +59,7 @@ returns c = let s = c .before .before .before .before .before .before .before .b
     let place = c .before .before .why .given .0 .1 .0 in
     let judged = sym (c .before .before .before .before .judge .ensures) ∙ ap said (c .before .before .why .given .1) in
     upheld (now (s .args .script)) (now (s .args .text)) (now (s .args .password)) (s .args .expected) (s .args .size) (now (s .args .zeros)) (now (s .args .ones)) _
-    (ap (λ (a : Answer). checked (said a) 0 (now (s .args .zeros)) (now (s .args .ones))) (c .refuse .ensures) ∙ check-refused (now (s .args .script)) (now (s .args .text)) (now (s .args .password)) (s .args .expected) (s .args .size) (now (s .args .zeros)) (now (s .args .ones)) number place judged)
+    (ap (λ (a : Answer). checked (said a) 0 (now (s .args .zeros)) (now (s .args .ones))) (c .refuse .ensures) ∙ check-by (now (s .args .script)) (now (s .args .text)) (now (s .args .password)) (s .args .expected) (s .args .size) (now (s .args .zeros)) (now (s .args .ones)) (refused number place) judged)
 
 same-length-3 : tie.Need-same-length-3
 same-length-3 c = c .before .before .before .before .run .kept .1 .1 .1 .1 .0 ∙ c .before .before .before .before .before .before .before .before .before .before .before .before .before .fill .kept .0
@@ -70,12 +70,12 @@ same-length-4 c = c .before .before .before .before .run .kept .1 .1 .1 .1 .1 .0
 returns-2 : tie.Need-returns-2
 returns-2 c = let s = c .before .before .before .before .before .before .before .before .before .before .before .before .before .before .before .before .before .before .before .before .before .before .before .before .before in
     let ok = sym (c .before .before .before .before .before .before .before .before .before .before .before .before .before .before .before .before .before .judge .ensures) ∙ ap said (c .before .before .before .before .before .before .before .before .before .before .before .before .before .before .before .enum-told .given .1) in
-    let r = judged-ready (now (s .args .script)) (now (s .args .text)) (now (s .args .password)) (s .args .size) (length (now (s .args .zeros))) (length (now (s .args .ones))) ok in
+    let r = said-passed (now (s .args .script)) (now (s .args .text)) (now (s .args .password)) (s .args .size) (length (now (s .args .zeros))) (length (now (s .args .ones))) ok in
     let long : length (c .before .before .before .before .before .before .before .before .before .before .before .before .before .fill .last .0) ≡ s .args .size = c .before .before .before .before .before .before .before .before .before .before .before .before .before .fill .kept .0 ∙ r .zeros-sized in
     upheld (now (s .args .script)) (now (s .args .text)) (now (s .args .password)) (s .args .expected) (s .args .size) (now (s .args .zeros)) (now (s .args .ones)) _
     (c .before .before .before .before .run .ensures
     ∙ ap (λ (n : ℕ). runOf (now (s .args .script)) (pictureOf n (imageOf (now (s .args .text)))) (now (s .args .password)) (s .args .expected) n) long
-    ∙ check-run (now (s .args .script)) (now (s .args .text)) (now (s .args .password)) (s .args .expected) (s .args .size) (now (s .args .zeros)) (now (s .args .ones)) ok)
+    ∙ check-by (now (s .args .script)) (now (s .args .text)) (now (s .args .password)) (s .args .expected) (s .args .size) (now (s .args .zeros)) (now (s .args .ones)) passed ok)
 
 pub check-spec : {M : Type 1} → statement M
 check-spec =

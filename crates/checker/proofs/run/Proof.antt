@@ -12,13 +12,14 @@ use Rattle.delivery.specs.Check.{checked, trial, stepOf, runOf}
 use Rattle.firmware_text.specs.Machine.{imageOf}
 use Rattle.loader.specs.Loader.{isApplication}
 use Rattle.refusal.specs.Refusal.{numberOf}
+use Rattle.refusal.proofs.Distinct.{some-number}
 use Rattle.script.proofs.Framing.{front-inside}
 use Rattle.text_image.specs.Picture.{pictureOf}
 use Rattle.text_image.specs.Rules.{rulesOf}
 use Rattle.checker.specs.Answers.{said, stepped}
 use Rattle.checker.specs.declared.Answer.{Answer}
 use Rattle.checker.specs.declared.Step.{Step}
-use Rattle.checker.proofs.Walk.{some-number, ahead-front, Reaches, reach-begin, reach-end, reach-refused, reach-next}
+use Rattle.checker.proofs.Walk.{ahead-front, Reaches, reach-begin, reach-end, reach-refused, reach-next}
 use borrow.Author.Needs.{needs}
 use Rattle.checker.proofs.run.Statement.{statement}
 use Rattle.checker.proofs.run.Tie as tie
