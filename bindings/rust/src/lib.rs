@@ -1,0 +1,313 @@
+//! Safe calls of the proved functions in `libzlatopysk.a`, in Rust's terms: document 01's answers as values, and lent
+//! memory as slices. Every function takes any input, keeps no state, and changes nothing where it refuses, if its
+//! comment does not say otherwise. What each answers and leaves is proved; what this crate does is to pass it on.
+
+mod record;
+
+pub use record::{
+    BoardSensors, BoardStatus, Device, DeviceStatus, ErrorCounters, FlashControl, InputSensor,
+    ModuleStatus, NetworkModule, SecurityStatus, SensorRecord,
+};
+
+/// The library's own interface, as `bindings/c/zlatopysk.h` has it: a slice is a pointer and a length.
+mod library {
+    use crate::record::LENGTH;
+
+    extern "C" {
+        pub fn zlatopysk_checksum(bytes: *const u8, n: usize) -> u16;
+
+        pub fn zlatopysk_read(
+            text: *const u8,
+            text_n: usize,
+            size: usize,
+            region: *mut u8,
+            region_n: usize,
+            answer: *mut [u64; 3],
+        );
+
+        pub fn zlatopysk_plan(
+            text: *const u8,
+            text_n: usize,
+            password: *const u8,
+            password_n: usize,
+            entry: u32,
+            size: usize,
+            out: *mut u8,
+            out_n: usize,
+            answer: *mut [u64; 3],
+        );
+
+        pub fn zlatopysk_check(
+            script: *const u8,
+            script_n: usize,
+            text: *const u8,
+            text_n: usize,
+            password: *const u8,
+            password_n: usize,
+            expected: u16,
+            size: usize,
+            zeros: *mut u8,
+            zeros_n: usize,
+            ones: *mut u8,
+            ones_n: usize,
+            answer: *mut [u64; 3],
+        );
+
+        pub fn zlatopysk_call(
+            mode: u8,
+            expected: u16,
+            version: *const [u8; 3],
+            record: *const [u8; LENGTH],
+            size: usize,
+            region: *mut u8,
+            region_n: usize,
+            password: *const u8,
+            password_n: usize,
+            message: *const u8,
+            message_n: usize,
+            reply: *mut u8,
+            reply_n: usize,
+            called: *mut [u64; 4],
+        );
+
+        pub fn zlatopysk_read_record(
+            bytes: *const u8,
+            n: usize,
+            record: *mut [u8; LENGTH],
+            answer: *mut [u64; 3],
+        );
+
+        pub fn zlatopysk_write_record(
+            record: *const [u8; LENGTH],
+            out: *mut u8,
+            out_n: usize,
+            answer: *mut [u64; 3],
+        );
+
+        pub fn zlatopysk_total_power(volts: u16, amps: u16) -> u16;
+    }
+}
+
+/// A refusal of document 01: its number, and its place (0 where the paper names none).
+#[derive(Clone, Copy, Debug, PartialEq, Eq)]
+pub struct Refused {
+    pub number: u8,
+    pub place: usize,
+}
+
+/// What the checker answers: `Ok` on pass; and the number of packets that succeeded in both runs.
+#[derive(Clone, Copy, Debug, PartialEq, Eq)]
+pub struct Checked {
+    pub answer: Result<(), Refused>,
+    pub packets: usize,
+}
+
+/// The mode of a card.
+#[derive(Clone, Copy, Debug, PartialEq, Eq)]
+pub enum Mode {
+    Application,
+    Locked,
+    Unlocked,
+}
+
+impl Mode {
+    fn number(self) -> u8 {
+        match self {
+            Mode::Application => 0,
+            Mode::Locked => 1,
+            Mode::Unlocked => 2,
+        }
+    }
+
+    fn of(number: u64) -> Mode {
+        match number {
+            0 => Mode::Application,
+            1 => Mode::Locked,
+            _ => Mode::Unlocked,
+        }
+    }
+}
+
+/// A card's state. `version` is xx, yy, zz of the version xx.yy.zz.
+#[derive(Clone, Copy, Debug, PartialEq, Eq)]
+pub struct Card {
+    pub mode: Mode,
+    pub expected: u16,
+    pub version: [u8; 3],
+    pub record: SensorRecord,
+}
+
+/// A reply: how many bytes it has over the front of the lent buffer, and whether it is document 01's success.
+#[derive(Clone, Copy, Debug, PartialEq, Eq)]
+pub struct Replied {
+    pub count: usize,
+    pub success: bool,
+}
+
+/// The count of an answer, or its refusal. No refusal has the number 0.
+fn answered([refusal, place, count]: [u64; 3]) -> Result<usize, Refused> {
+    match refusal {
+        0 => Ok(count as usize),
+        _ => Err(Refused {
+            number: refusal as u8,
+            place: place as usize,
+        }),
+    }
+}
+
+/// The CRC-16 of document 01.
+pub fn checksum(bytes: &[u8]) -> u16 {
+    // SAFETY: the pointer and the length are those of a slice, which the library reads.
+    unsafe { library::zlatopysk_checksum(bytes.as_ptr(), bytes.len()) }
+}
+
+/// Fills the region, which has to be `size` long, with the picture of the text.
+pub fn read(text: &[u8], size: usize, region: &mut [u8]) -> Result<(), Refused> {
+    let mut answer = [0; 3];
+    // SAFETY: each pointer and length are those of a slice; `region` and `answer` are lent to this call alone.
+    unsafe {
+        library::zlatopysk_read(
+            text.as_ptr(),
+            text.len(),
+            size,
+            region.as_mut_ptr(),
+            region.len(),
+            &mut answer,
+        );
+    }
+    answered(answer).map(|_| ())
+}
+
+/// Writes the script that puts the text into a card over the front of the output; answers the script's length.
+pub fn plan(
+    text: &[u8],
+    password: &[u8],
+    entry: u32,
+    size: usize,
+    out: &mut [u8],
+) -> Result<usize, Refused> {
+    let mut answer = [0; 3];
+    // SAFETY: each pointer and length are those of a slice; `out` and `answer` are lent to this call alone.
+    unsafe {
+        library::zlatopysk_plan(
+            text.as_ptr(),
+            text.len(),
+            password.as_ptr(),
+            password.len(),
+            entry,
+            size,
+            out.as_mut_ptr(),
+            out.len(),
+            &mut answer,
+        );
+    }
+    answered(answer)
+}
+
+/// Runs the script over a region of zeros and over one of 0xFF, in the two lent buffers of `size` bytes, and says
+/// whether any card behind it holds the text's picture. A refusal before the first packet leaves the buffers as they
+/// were; else they hold what the runs came to.
+pub fn check(
+    script: &[u8],
+    text: &[u8],
+    password: &[u8],
+    expected: u16,
+    size: usize,
+    zeros: &mut [u8],
+    ones: &mut [u8],
+) -> Checked {
+    let mut answer = [0; 3];
+    // SAFETY: each pointer and length are those of a slice; `zeros`, `ones` and `answer` are lent to this call alone.
+    unsafe {
+        library::zlatopysk_check(
+            script.as_ptr(),
+            script.len(),
+            text.as_ptr(),
+            text.len(),
+            password.as_ptr(),
+            password.len(),
+            expected,
+            size,
+            zeros.as_mut_ptr(),
+            zeros.len(),
+            ones.as_mut_ptr(),
+            ones.len(),
+            &mut answer,
+        );
+    }
+    Checked {
+        answer: answered(answer).map(|_| ()),
+        packets: answer[2] as usize,
+    }
+}
+
+/// One message to a card, whose flash is the region: the reply stands over the front of the lent buffer, and the
+/// card's mode is the one behind it. No other part of the state changes.
+pub fn call(
+    card: &mut Card,
+    size: usize,
+    region: &mut [u8],
+    password: &[u8],
+    message: &[u8],
+    reply: &mut [u8],
+) -> Result<Replied, Refused> {
+    let values = record::bytes(&card.record);
+    let mut called = [0; 4];
+    // SAFETY: each pointer and length are those of a slice or an array of the length that the library expects;
+    // `region`, `reply` and `called` are lent to this call alone.
+    unsafe {
+        library::zlatopysk_call(
+            card.mode.number(),
+            card.expected,
+            &card.version,
+            &values,
+            size,
+            region.as_mut_ptr(),
+            region.len(),
+            password.as_ptr(),
+            password.len(),
+            message.as_ptr(),
+            message.len(),
+            reply.as_mut_ptr(),
+            reply.len(),
+            &mut called,
+        );
+    }
+    let [refusal, count, success, mode] = called;
+    card.mode = Mode::of(mode);
+    let count = answered([refusal, 0, count])?;
+    Ok(Replied {
+        count,
+        success: success != 0,
+    })
+}
+
+/// The values of a card's sensor record in 64 bytes.
+pub fn read_record(bytes: &[u8]) -> Result<SensorRecord, Refused> {
+    let mut values = [0; record::LENGTH];
+    let mut answer = [0; 3];
+    // SAFETY: the pointer and the length are those of a slice; both arrays are of the length that the library
+    // expects, and lent to this call alone.
+    unsafe {
+        library::zlatopysk_read_record(bytes.as_ptr(), bytes.len(), &mut values, &mut answer);
+    }
+    answered(answer).map(|_| record::values(&values))
+}
+
+/// Writes the 64 bytes of a sensor record over the front of the output.
+pub fn write_record(record: &SensorRecord, out: &mut [u8]) -> Result<(), Refused> {
+    let values = record::bytes(record);
+    let mut answer = [0; 3];
+    // SAFETY: the pointer and the length are those of a slice; both arrays are of the length that the library
+    // expects; `out` and `answer` are lent to this call alone.
+    unsafe {
+        library::zlatopysk_write_record(&values, out.as_mut_ptr(), out.len(), &mut answer);
+    }
+    answered(answer).map(|_| ())
+}
+
+/// Total power in watts from the raw 12 V readings.
+pub fn total_power(volts: u16, amps: u16) -> u16 {
+    // SAFETY: numbers alone.
+    unsafe { library::zlatopysk_total_power(volts, amps) }
+}

@@ -1,0 +1,65 @@
+-- `record_layout::put::device` meets its contract: its front and its counters are stored in turn.
+-- Assumes nothing.
+use mathlib.Core.List.{List, [], _∷_, _++_}
+use mathlib.Core.Path.{ap, _∙_}
+use Prim.Native.Nat.{ℕ, _<_, _+_}
+use native.Mathlib.Omega.{arith}
+use lib.Signed.{mag}
+use Rattle.little_endian.specs.Bytes.{storedAt}
+use Rattle.little_endian.proofs.Stored.{in-turn}
+use Rattle.temperature.specs.Temperature.{byteOf}
+use Rattle.temperature.proofs.Laws.{machine-again}
+use Rattle.sensor_values.specs.Layout.{errorBytes}
+use Rattle.record_layout.specs.Layout.{deviceStatusValues, deviceValues}
+use borrow.Author.Needs.{needs}
+use Rattle.record_layout.proofs.put.device.Statement.{statement}
+use Rattle.record_layout.proofs.put.device.Tie as tie
+
+to-byte-requires : tie.Need-to-byte-requires
+to-byte-requires c κs = search needs
+
+to-byte-requires-2 : tie.Need-to-byte-requires-2
+to-byte-requires-2 c κs = search needs
+
+slice-aggregate-store : tie.Need-slice-aggregate-store
+slice-aggregate-store c = search needs
+
+store-requires : tie.Need-store-requires
+store-requires c κs = search needs
+
+add-errors : tie.Need-add-errors
+add-errors c = search needs
+
+errors-requires : tie.Need-errors-requires
+errors-requires c κs = search needs
+
+same-length : tie.Need-same-length
+same-length c = search needs
+
+returns : tie.Need-returns
+unfolding deviceValues errorBytes
+returns c =
+    let start = c .before .before .before .before .before .before .before .before .before .before .before .before .before .before .before .before in
+    let a = start .args in
+    let d = a .d in
+    let fpga : mag (d .«fpga_temperature») < 128 = omega (arith, start .good) in
+    let hbm : mag (d .«hbm_temperature») < 128 = omega (arith, start .good) in
+    let front : List ℕ = deviceStatusValues (d .status) ++ (byteOf (d .«fpga_temperature») ∷ byteOf (d .«hbm_temperature») ∷ []) in
+    c .before .before .errors .ensures
+    ∙ ap (storedAt (a .at + 7) (errorBytes (d .errors)))
+    (c .before .before .before .before .before .before .store .ensures
+    ∙ simp (c .before .before .before .before .before .before .before .before .before .to-byte2 .ensures, c .before .before .before .before .before .before .before .before .before .before .before .to-byte .ensures, machine-again (d .«fpga_temperature») fpga, machine-again (d .«hbm_temperature») hbm))
+    ∙ in-turn (a .at) (front ∷ errorBytes (d .errors) ∷ []) (a .out .now) (start .pre)
+
+pub device-spec : {M : Type 1} → statement M
+device-spec =
+    tie.close
+    (tie.spec
+    to-byte-requires
+    to-byte-requires-2
+    slice-aggregate-store
+    store-requires
+    add-errors
+    errors-requires
+    same-length
+    returns)

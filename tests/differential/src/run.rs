@@ -1,0 +1,337 @@
+//! Cases by function and number: listed ones, and random ones each from its own seed.
+
+use crate::compare::{self, Class, Difference, Sides};
+use crate::demand3;
+use crate::inputs::{lent, messages, records, scripts, texts};
+use crate::listed;
+use crate::random::{mix, Random};
+use std::collections::BTreeMap;
+use std::fmt::{self, Display, Formatter};
+
+/// The public functions.
+#[derive(Clone, Copy, Debug, PartialEq, Eq, PartialOrd, Ord)]
+pub enum Function {
+    Checksum,
+    Call,
+    Read,
+    Plan,
+    Check,
+    ReadRecord,
+    WriteRecord,
+    TotalPower,
+}
+
+impl Function {
+    pub const ALL: [Function; 8] = [
+        Function::Checksum,
+        Function::Call,
+        Function::Read,
+        Function::Plan,
+        Function::Check,
+        Function::ReadRecord,
+        Function::WriteRecord,
+        Function::TotalPower,
+    ];
+
+    pub fn name(self) -> &'static str {
+        match self {
+            Function::Checksum => "checksum",
+            Function::Call => "call",
+            Function::Read => "read",
+            Function::Plan => "plan",
+            Function::Check => "check",
+            Function::ReadRecord => "read_record",
+            Function::WriteRecord => "write_record",
+            Function::TotalPower => "total_power",
+        }
+    }
+
+    pub fn named(name: &str) -> Option<Function> {
+        Function::ALL.into_iter().find(|f| f.name() == name)
+    }
+
+    /// How many random cases the bounded run has.
+    pub fn bounded(self) -> usize {
+        match self {
+            Function::Checksum => 20_000,
+            Function::Call => 40_000,
+            Function::Read => 40_000,
+            Function::Plan => 30_000,
+            Function::Check => 24_000,
+            Function::ReadRecord => 200_000,
+            Function::WriteRecord => 200_000,
+            Function::TotalPower => 2_000_000,
+        }
+    }
+
+    /// Its part of the longer run's time, in hundredths.
+    pub fn part(self) -> u32 {
+        match self {
+            Function::Checksum => 5,
+            Function::Call => 20,
+            Function::Read => 18,
+            Function::Plan => 15,
+            Function::Check => 34,
+            Function::ReadRecord => 3,
+            Function::WriteRecord => 3,
+            Function::TotalPower => 2,
+        }
+    }
+
+    /// Every kind of answer that the function can give, but refusal 9, which cannot be had.
+    pub fn answers(self) -> Vec<Class> {
+        let refusals: &[u8] = match self {
+            Function::Checksum | Function::TotalPower => &[],
+            Function::Call => &[1, 2, 13, 15, 16, 17],
+            Function::Read => &[1, 18, 3, 4, 5],
+            Function::Plan => &[1, 2, 14, 18, 3, 4, 5, 13],
+            Function::Check => &[1, 2, 18, 3, 4, 5, 6, 7, 10, 8, 11, 12],
+            Function::ReadRecord => &[17],
+            Function::WriteRecord => &[13, 17],
+        };
+        let refusals = refusals.iter().map(|&number| Class::Refusal(number));
+        if self == Function::Call {
+            refusals.chain(call_answers()).collect()
+        } else {
+            refusals.chain([Class::Answered]).collect()
+        }
+    }
+}
+
+/// The answers of a call that is not refused.
+fn call_answers() -> impl Iterator<Item = Class> {
+    let bytes = [0x01, 0x51, 0x52, 0x53, 0x54, 0x55].map(Class::Byte);
+    let messages = [0x00, 0x01, 0x04, 0x05, 0x07].map(Class::Message);
+    let requests = [0x02, 0x03, 0x04, 0x05, 0x0F, 0x20, 0x31, 0x32].map(Class::Request);
+    let others = [Class::Data, Class::Started];
+    bytes
+        .into_iter()
+        .chain(messages)
+        .chain(requests)
+        .chain(others)
+}
+
+/// One case: from a list, or made from a seed.
+#[derive(Clone, Copy, Debug, PartialEq, Eq)]
+pub enum Case {
+    Listed(usize),
+    Seed(u64),
+}
+
+impl Display for Case {
+    fn fmt(&self, f: &mut Formatter) -> fmt::Result {
+        match self {
+            Case::Listed(index) => write!(f, "listed:{index}"),
+            Case::Seed(seed) => write!(f, "seed:{seed}"),
+        }
+    }
+}
+
+/// The seed of a run's case.
+pub fn case_seed(seed: u64, function: Function, index: usize) -> u64 {
+    mix(mix(seed ^ ((function as u64) << 56)) ^ index as u64)
+}
+
+/// The bounded run's cases of one function.
+pub fn bounded_cases(seed: u64, function: Function) -> impl Iterator<Item = Case> {
+    let listed = (0..listed::count(function)).map(Case::Listed);
+    let random = (0..function.bounded()).map(move |index| case_seed(seed, function, index));
+    listed.chain(random.map(Case::Seed))
+}
+
+/// Tries one case and answers the kinds of answer seen.
+pub fn try_case(sides: Sides, function: Function, case: Case) -> Result<Vec<Class>, Difference> {
+    match case {
+        Case::Listed(index) => listed::try_listed(sides, function, index),
+        Case::Seed(seed) => try_random(sides, function, &mut Random::new(seed)),
+    }
+}
+
+fn try_random(
+    sides: Sides,
+    function: Function,
+    random: &mut Random,
+) -> Result<Vec<Class>, Difference> {
+    if function == Function::Call {
+        return run_of_calls(sides, random);
+    }
+    let class = match function {
+        Function::Checksum => {
+            let length = random.pick(&[0, 1, 2, 7, 64, 261, 4_096, 5_000]);
+            let length = random.below(length + 1);
+            compare::checksum(sides, &random.bytes(length))?
+        }
+        Function::Read => random_read(sides, random)?,
+        Function::Plan => random_plan(sides, random)?,
+        Function::Check => random_check(sides, random)?,
+        Function::ReadRecord => compare::read_record(sides, &records::bytes(random))?,
+        Function::WriteRecord => {
+            compare::write_record(sides, &records::any(random), &records::output(random))?
+        }
+        Function::TotalPower => {
+            compare::total_power(sides, random.number() as u16, random.number() as u16)?
+        }
+        Function::Call => unreachable!("handled above"),
+    };
+    Ok(vec![class])
+}
+
+fn random_read(sides: Sides, random: &mut Random) -> Result<Class, Difference> {
+    let odds = lent::odds(random);
+    let good = lent::good_size(random);
+    let text = texts::any(random, good);
+    let size = lent::size(random, good, odds);
+    let region = lent::region(random, size, odds);
+    compare::read(sides, &text, size, &region)
+}
+
+fn random_plan(sides: Sides, random: &mut Random) -> Result<Class, Difference> {
+    let odds = lent::odds(random);
+    let good = lent::good_size(random);
+    let text = texts::any(random, good);
+    let size = lent::size(random, good, odds);
+    let password = lent::password(random, odds);
+    let entry = if random.once_in(odds.min(20)) {
+        random.pick(&[good, good + 1, u32::MAX as usize, 1 << 31])
+    } else if random.once_in(8) {
+        random.pick(&[0, good - 1])
+    } else {
+        random.below(good)
+    };
+    let out = planner_output(random, &text, good);
+    compare::plan(sides, &text, &password, entry as u32, size, &out)
+}
+
+/// An output that is exactly long enough, longer, one short or far too short.
+fn planner_output(random: &mut Random, text: &[u8], size: usize) -> Vec<u8> {
+    let needed = match reference::text::image(text, size) {
+        Ok(segments) => {
+            let block = reference::planner::BLOCK;
+            reference::planner::script(&segments, &[0; 256], 0, block).len()
+        }
+        Err(_) => 300,
+    };
+    let length = match random.below(8) {
+        0..=2 => needed,
+        3..=5 => needed + random.between(1, 300),
+        6 => needed - 1,
+        _ => random.below(needed),
+    };
+    random.bytes(length)
+}
+
+/// The checker, and with small regions demand 3 by the loader's own calls.
+fn random_check(sides: Sides, random: &mut Random) -> Result<Class, Difference> {
+    let input = scripts::check_input(random);
+    let class = compare::check(sides, &input)?;
+    if input.size <= 8_192 {
+        demand3::holds(sides.left, &input, random)?;
+    }
+    Ok(class)
+}
+
+/// A run of calls to one card, state and region carried from each to the next.
+fn run_of_calls(sides: Sides, random: &mut Random) -> Result<Vec<Class>, Difference> {
+    let mut world = messages::world(random);
+    let mut classes = Vec::new();
+    let longest = if world.size > 16_384 { 3 } else { 14 };
+    for _ in 0..random.between(1, longest) {
+        messages::change(random, &mut world);
+        let message = messages::message(random, &world);
+        let reply = messages::reply_buffer(random, world.card.mode);
+        if random.once_in(30) {
+            let mut bad = messages::badly_lent(random, &world);
+            classes.push(compare::call(sides, &mut bad, &message, &reply)?);
+        }
+        classes.push(compare::call(sides, &mut world, &message, &reply)?);
+    }
+    Ok(classes)
+}
+
+/// What came of the cases tried so far.
+#[derive(Default)]
+pub struct Tally {
+    pub inputs: usize,
+    pub answers: BTreeMap<Class, usize>,
+    pub differences: usize,
+    pub first: Option<String>,
+}
+
+impl Tally {
+    /// Tries one case and counts it.
+    pub fn add(&mut self, sides: Sides, function: Function, case: Case) {
+        match try_case(sides, function, case) {
+            Ok(classes) => {
+                self.inputs += classes.len();
+                for class in classes {
+                    *self.answers.entry(class).or_default() += 1;
+                }
+            }
+            Err(difference) => {
+                self.inputs += 1;
+                self.differences += 1;
+                let name = function.name();
+                self.first
+                    .get_or_insert_with(|| format!("--case {name}:{case}: {difference}"));
+            }
+        }
+    }
+
+    /// The answers that the function can give and did not.
+    pub fn missing(&self, function: Function) -> Vec<Class> {
+        let mut answers = function.answers();
+        answers.retain(|class| !self.answers.contains_key(class));
+        answers
+    }
+
+    pub fn report(&self, function: Function) -> String {
+        let answers: Vec<String> = self
+            .answers
+            .iter()
+            .map(|(class, count)| format!("{class}: {count}"))
+            .collect();
+        let first = match &self.first {
+            Some(first) => format!("\n    first difference {first}"),
+            None => String::new(),
+        };
+        format!(
+            "{:<12} {:>9} inputs, {} differences; {}{first}",
+            function.name(),
+            self.inputs,
+            self.differences,
+            answers.join(", ")
+        )
+    }
+}
+
+#[cfg(test)]
+mod tests {
+    use super::*;
+    use crate::implementation::{Implementation, REFERENCE};
+
+    /// The framework finds nothing between equal sides, and names the first case that differs.
+    #[test]
+    fn tally() {
+        let wrong = Implementation {
+            total_power: |_, _| 7,
+            ..REFERENCE
+        };
+        let mut tally = Tally::default();
+        let function = Function::TotalPower;
+        let same = Sides {
+            left: &REFERENCE,
+            right: &REFERENCE,
+        };
+        tally.add(same, function, Case::Seed(1));
+        assert_eq!((tally.inputs, tally.differences), (1, 0));
+        let other = Sides {
+            left: &REFERENCE,
+            right: &wrong,
+        };
+        tally.add(other, function, Case::Seed(2));
+        tally.add(other, function, Case::Seed(3));
+        assert_eq!((tally.inputs, tally.differences), (3, 2));
+        let first = tally.first.unwrap();
+        assert!(first.starts_with("--case total_power:seed:2: watts"));
+    }
+}

@@ -1,0 +1,56 @@
+//! Deliberately wrong references, each with one rule of document 01 broken. The comparison must
+//! find every one of them; else it would not find the same fault in the library.
+
+use crate::implementation::Implementation;
+use crate::run::Function;
+
+/// The reference with one function replaced.
+macro_rules! wrong {
+    ($name:literal, $function:ident, $field:ident: $with:expr) => {
+        Wrong {
+            name: $name,
+            function: Function::$function,
+            implementation: Implementation {
+                $field: $with,
+                ..REFERENCE
+            },
+        }
+    };
+}
+
+mod calls;
+mod checks;
+mod numbers;
+mod plans;
+mod records;
+mod texts;
+
+/// A wrong reference, and the function in which it is wrong.
+pub struct Wrong {
+    pub name: &'static str,
+    pub function: Function,
+    pub implementation: Implementation,
+}
+
+/// All wrong references.
+pub fn all() -> Vec<Wrong> {
+    [
+        numbers::checksums(),
+        numbers::powers(),
+        calls::packets(),
+        calls::loaders(),
+        calls::applications(),
+        calls::refusals(),
+        records::readers(),
+        records::writers(),
+        texts::readers(),
+        texts::refusals(),
+        plans::scripts(),
+        plans::refusals(),
+        checks::runs(),
+        checks::refusals(),
+    ]
+    .into_iter()
+    .flatten()
+    .collect()
+}

@@ -1,0 +1,130 @@
+//! The bounded run with a fixed seed: for every public function the library is compared with the
+//! reference, and with every deliberately wrong reference, which must be found.
+
+use differential::compare::Sides;
+use differential::implementation::{LIBRARY, REFERENCE};
+use differential::inputs::scripts;
+use differential::random::Random;
+use differential::run::{bounded_cases, try_case, Function, Tally};
+use differential::wrong;
+use reference::script::frames;
+use std::io::Write;
+
+const SEED: u64 = 20_260_101;
+
+/// Prints a line even where the test's own output is held back.
+fn print(line: &str) {
+    let mut out = std::io::stdout().lock();
+    writeln!(out, "{line}").expect("standard output");
+}
+
+fn agrees(function: Function) {
+    let sides = Sides {
+        left: &LIBRARY,
+        right: &REFERENCE,
+    };
+    let mut tally = Tally::default();
+    for case in bounded_cases(SEED, function) {
+        tally.add(sides, function, case);
+    }
+    print(&tally.report(function));
+    assert_eq!(tally.differences, 0, "{:?}", tally.first);
+    let missing = tally.missing(function);
+    assert!(missing.is_empty(), "never answered: {missing:?}");
+}
+
+#[test]
+fn checksum_agrees() {
+    agrees(Function::Checksum);
+}
+
+#[test]
+fn call_agrees() {
+    agrees(Function::Call);
+}
+
+#[test]
+fn read_agrees() {
+    agrees(Function::Read);
+}
+
+#[test]
+fn plan_agrees() {
+    agrees(Function::Plan);
+}
+
+#[test]
+fn check_agrees() {
+    agrees(Function::Check);
+}
+
+#[test]
+fn read_record_agrees() {
+    agrees(Function::ReadRecord);
+}
+
+#[test]
+fn write_record_agrees() {
+    agrees(Function::WriteRecord);
+}
+
+#[test]
+fn total_power_agrees() {
+    agrees(Function::TotalPower);
+}
+
+/// The page's own scripts pass, as demand 3 asks.
+#[test]
+fn scripts_by_the_page_pass() {
+    for index in 0..3_000 {
+        let random = &mut Random::new(SEED + index);
+        let input = scripts::by_the_page(random);
+        let (mut zeros, mut ones) = (input.zeros, input.ones);
+        let checked = (LIBRARY.check)(
+            &input.script,
+            &input.text,
+            &input.password,
+            input.expected,
+            input.size,
+            &mut zeros,
+            &mut ones,
+        );
+        assert_eq!(checked.answer, Ok(()), "{index}");
+        let packets = frames(&input.script).map(|frames| frames.len());
+        assert_eq!(Some(checked.packets), packets, "{index}");
+    }
+}
+
+/// Whether a case of the bounded run finds a wrong reference.
+fn is_found(wrong: &wrong::Wrong) -> bool {
+    let sides = Sides {
+        left: &LIBRARY,
+        right: &wrong.implementation,
+    };
+    bounded_cases(SEED, wrong.function).any(|case| try_case(sides, wrong.function, case).is_err())
+}
+
+#[test]
+fn every_wrong_reference_is_found() {
+    let all = wrong::all();
+    let mut missed = Vec::new();
+    for wrong in &all {
+        if !is_found(wrong) {
+            missed.push(wrong.name);
+        }
+    }
+    print(&format!(
+        "wrong references: {} of {} found",
+        all.len() - missed.len(),
+        all.len()
+    ));
+    assert!(missed.is_empty(), "not found: {missed:?}");
+}
+
+#[test]
+fn every_function_has_a_wrong_reference() {
+    let all = wrong::all();
+    for function in Function::ALL {
+        assert!(all.iter().any(|wrong| wrong.function == function));
+    }
+}

@@ -1,0 +1,79 @@
+/* Calls each function of bindings/c/zlatopysk.h once or twice and prints what it answers, so that the header is
+   tried and not only read. tests/c compares it with tests/header.expected. */
+#include <stdio.h>
+#include <string.h>
+
+#include "zlatopysk.h"
+
+enum { SIZE = 4096 };
+
+static const uint8_t text[] = "@10\n01 02\nq\n";
+static uint8_t password[256], region[SIZE], zeros[SIZE], ones[SIZE], script[400], reply[64];
+static uint8_t record[ZLATOPYSK_RECORD], bytes[64];
+static const uint8_t version[3] = {6, 2, 11};
+
+static void show(const char *name, struct zlatopysk_answer a) {
+    printf("%s: refusal %u place %u count %u\n", name, (unsigned)a.refusal, (unsigned)a.place, (unsigned)a.count);
+}
+
+static void show_bytes(const uint8_t *from, size_t n) {
+    for (size_t i = 0; i < n; i++) printf(" %02x", from[i]);
+    printf("\n");
+}
+
+/* One message to a card, and the mode behind it. */
+static uint8_t send(const char *name, uint8_t mode, const uint8_t *message, size_t n) {
+    struct zlatopysk_called c;
+    zlatopysk_call(mode, 0, version, record, SIZE, region, SIZE, password, sizeof password, message, n, reply,
+                   sizeof reply, &c);
+    printf("%s: refusal %u success %u mode %u reply", name, (unsigned)c.refusal, (unsigned)c.success,
+           (unsigned)c.mode);
+    show_bytes(reply, c.count);
+    return (uint8_t)c.mode;
+}
+
+static void try_record(void) {
+    struct zlatopysk_answer a;
+    memset(record, 0, sizeof record);
+    record[ZLATOPYSK_SENSORS_INLET] = 0xFE;
+    record[ZLATOPYSK_SENSORS_INPUT_12V + ZLATOPYSK_INPUT_CURRENT] = 0x10;
+    record[ZLATOPYSK_SENSORS_INPUT_12V + ZLATOPYSK_INPUT_CURRENT + 1] = 0x27;
+    record[ZLATOPYSK_DEVICE2 + ZLATOPYSK_DEVICE_FPGA_TEMPERATURE] = 35;
+    zlatopysk_write_record(record, bytes, sizeof bytes, &a);
+    show("write_record", a);
+    show_bytes(bytes, sizeof bytes);
+    memset(record, 0xEE, sizeof record);
+    zlatopysk_read_record(bytes, sizeof bytes, record, &a);
+    show("read_record", a);
+    printf("inlet %d, current %u, FPGA of device 2 %u\n", (int8_t)record[ZLATOPYSK_SENSORS_INLET],
+           record[ZLATOPYSK_SENSORS_INPUT_12V] + 256u * record[ZLATOPYSK_SENSORS_INPUT_12V + 1],
+           record[ZLATOPYSK_DEVICE2 + ZLATOPYSK_DEVICE_FPGA_TEMPERATURE]);
+    zlatopysk_read_record(bytes, 63, record, &a);
+    show("read_record of 63 bytes", a);
+}
+
+int main(void) {
+    struct zlatopysk_answer a;
+    memset(password, 0xFF, sizeof password);
+    printf("checksum: %04x\n", zlatopysk_checksum((const uint8_t *)"123456789", 9));
+    printf("total_power: %u\n", zlatopysk_total_power(9584, 10000));
+    zlatopysk_read(text, sizeof text - 1, SIZE, region, SIZE, &a);
+    show("read", a);
+    printf("at 0x0f:");
+    show_bytes(region + 15, 4);
+    zlatopysk_plan(text, sizeof text - 1, password, sizeof password, 0x201, SIZE, script, sizeof script, &a);
+    show("plan", a);
+    zlatopysk_check(script, a.count, text, sizeof text - 1, password, sizeof password,
+                    zlatopysk_checksum(region, SIZE), SIZE, zeros, SIZE, ones, SIZE, &a);
+    show("check", a);
+    zlatopysk_check(script, 5, text, sizeof text - 1, password, sizeof password, 0, SIZE, zeros, SIZE, ones, SIZE, &a);
+    show("check of the head", a);
+    try_record();
+    uint8_t mode = send("version", ZLATOPYSK_APPLICATION, (const uint8_t *)"\x04", 1);
+    mode = send("temperature", mode, (const uint8_t *)"\x05", 1);
+    mode = send("loader", mode, (const uint8_t *)"\x32", 1);
+    mode = send("erase", mode, (const uint8_t *)"\x80\x01\x00\x15\x64\xA3", 6);
+    mode = send("password", mode, script + 5, 262);
+    mode = send("erase", mode, script + 267, 6);
+    return 0;
+}
