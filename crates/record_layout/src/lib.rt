@@ -46,7 +46,7 @@ pub fn bytes(values: SensorRecord) -> [u8; 87]
     let mut out = [0u8; 87];
     put::status(status, &mut out);
     put::security(security, &mut out);
-    put::sensors(sensors, &mut out);
+    little_endian::store(&sensor_writer::sensor_bytes(sensors), 17, &mut out);
     put::device(one, 33, &mut out);
     put::device(two, 50, &mut out);
     put::module(lower, 67, &mut out);

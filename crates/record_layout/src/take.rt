@@ -3,15 +3,12 @@ use sensor_values::BoardSensors;
 use sensor_values::BoardStatus;
 use sensor_values::Device;
 use sensor_values::DeviceStatus;
-use sensor_values::ErrorCounters;
 use sensor_values::FlashControl;
-use sensor_values::InputSensor;
 use sensor_values::ModuleStatus;
 use sensor_values::NetworkModule;
 use sensor_values::SecurityStatus;
 ghost use mathlib.Core.Path.{_≡_};
 ghost use Prim.Native.Nat.{_+_, _≤_};
-ghost use Rattle.sensor_values.specs.Reading.{inputOf, errorsOf};
 ghost use Rattle.record_layout.specs.Reading.{statusIn, securityIn, sensorsIn, deviceStatusIn, deviceIn, moduleStatusIn, moduleIn};
 
 pub fn status(bytes: &[u8; 87]) -> BoardStatus
@@ -51,26 +48,14 @@ pub fn security(bytes: &[u8; 87]) -> SecurityStatus
     }
 }
 
-fn input(bytes: &[u8], at: usize) -> InputSensor
-    requires { ⌜ at + 4 ≤ 87 ⌝ }
-    ensures { λ r. ⌜ r ≡ inputOf at (now (bytes .entry)) ⌝ }
-{
-    let first = little_endian::two_at(bytes, at);
-    let second = little_endian::two_at(bytes, at + 2);
-    InputSensor {
-        current: first,
-        voltage: second,
-    }
-}
-
 pub fn sensors(bytes: &[u8; 87]) -> BoardSensors
     ensures { λ r. ⌜ r ≡ sensorsIn (now (bytes .entry)) ⌝ }
 {
     let inlet = temperature::from_byte(bytes[17]);
     let outlet = temperature::from_byte(bytes[18]);
-    let input_3v3 = input(bytes, 19);
-    let input_12v = input(bytes, 23);
-    let input_aux = input(bytes, 27);
+    let input_3v3 = sensor_reader::input(bytes, 19);
+    let input_12v = sensor_reader::input(bytes, 23);
+    let input_aux = sensor_reader::input(bytes, 27);
     let total_power = little_endian::two_at(bytes, 31);
     BoardSensors {
         inlet,
@@ -95,30 +80,15 @@ fn device_status(bytes: &[u8; 87], at: usize) -> DeviceStatus
     }
 }
 
-fn errors(bytes: &[u8], at: usize) -> ErrorCounters
-    requires { ⌜ at + 10 ≤ 87 ⌝ }
-    ensures { λ r. ⌜ r ≡ errorsOf at (now (bytes .entry)) ⌝ }
-{
-    let ddr_uncorrectable = little_endian::two_at(bytes, at);
-    let ddr_correctable = little_endian::two_at(bytes, at + 2);
-    let pcie_uncorrectable = little_endian::two_at(bytes, at + 4);
-    let pcie_correctable = little_endian::four_at(bytes, at + 6);
-    ErrorCounters {
-        ddr_uncorrectable,
-        ddr_correctable,
-        pcie_uncorrectable,
-        pcie_correctable,
-    }
-}
-
-pub fn device(bytes: &[u8; 87], at: usize) -> Device
+pub fn device(bytes: &[u8; 87], at: u8) -> Device
     requires { ⌜ at + 17 ≤ 87 ⌝ }
     ensures { λ r. ⌜ r ≡ deviceIn at (now (bytes .entry)) ⌝ }
 {
-    let status = device_status(bytes, at);
-    let fpga_temperature = temperature::from_byte(bytes[at + 5]);
-    let hbm_temperature = temperature::from_byte(bytes[at + 6]);
-    let errors = errors(bytes, at + 7);
+    let place = at as usize;
+    let status = device_status(bytes, place);
+    let fpga_temperature = temperature::from_byte(bytes[place + 5]);
+    let hbm_temperature = temperature::from_byte(bytes[place + 6]);
+    let errors = sensor_reader::errors(bytes, at + 7);
     Device {
         status,
         fpga_temperature,

@@ -80,12 +80,14 @@ fn module_status(n: u16) -> ModuleStatus
     }
 }
 
-fn input(bytes: &[u8], at: usize) -> InputSensor
-    requires { ⌜ at + 4 ≤ 64 ⌝ }
+// The input sensor at a place, for every layout of the values in which its 4 bytes stand so. The place is
+// a `u8`, so that no sum wraps and nothing is asked of callers.
+pub fn input(bytes: &[u8], at: u8) -> InputSensor
     ensures { λ r. ⌜ r ≡ inputOf at (now (bytes .entry)) ⌝ }
 {
-    let first = little_endian::two_at(bytes, at);
-    let second = little_endian::two_at(bytes, at + 2);
+    let place = at as usize;
+    let first = little_endian::two_at(bytes, place);
+    let second = little_endian::two_at(bytes, place + 2);
     InputSensor {
         current: first,
         voltage: second,
@@ -111,14 +113,15 @@ fn sensors(bytes: &[u8]) -> BoardSensors
     }
 }
 
-fn errors(bytes: &[u8], at: usize) -> ErrorCounters
-    requires { ⌜ at + 10 ≤ 64 ⌝ }
+// A device's error counters at a place, in the same way.
+pub fn errors(bytes: &[u8], at: u8) -> ErrorCounters
     ensures { λ r. ⌜ r ≡ errorsOf at (now (bytes .entry)) ⌝ }
 {
-    let ddr_uncorrectable = little_endian::two_at(bytes, at);
-    let ddr_correctable = little_endian::two_at(bytes, at + 2);
-    let pcie_uncorrectable = little_endian::two_at(bytes, at + 4);
-    let pcie_correctable = little_endian::four_at(bytes, at + 6);
+    let place = at as usize;
+    let ddr_uncorrectable = little_endian::two_at(bytes, place);
+    let ddr_correctable = little_endian::two_at(bytes, place + 2);
+    let pcie_uncorrectable = little_endian::two_at(bytes, place + 4);
+    let pcie_correctable = little_endian::four_at(bytes, place + 6);
     ErrorCounters {
         ddr_uncorrectable,
         ddr_correctable,
@@ -127,13 +130,14 @@ fn errors(bytes: &[u8], at: usize) -> ErrorCounters
     }
 }
 
-fn device(bytes: &[u8], at: usize) -> Device
+fn device(bytes: &[u8], at: u8) -> Device
     requires { ⌜ at + 13 ≤ 64 ⌝ }
     ensures { λ r. ⌜ r ≡ deviceOf at (now (bytes .entry)) ⌝ }
 {
-    let status = device_status(little_endian::byte_at(bytes, at));
-    let fpga_temperature = temperature::from_byte(little_endian::byte_at(bytes, at + 1));
-    let hbm_temperature = temperature::from_byte(little_endian::byte_at(bytes, at + 2));
+    let place = at as usize;
+    let status = device_status(little_endian::byte_at(bytes, place));
+    let fpga_temperature = temperature::from_byte(little_endian::byte_at(bytes, place + 1));
+    let hbm_temperature = temperature::from_byte(little_endian::byte_at(bytes, place + 2));
     let errors = errors(bytes, at + 3);
     Device {
         status,

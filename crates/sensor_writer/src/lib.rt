@@ -71,41 +71,67 @@ fn module_status_word(s: ModuleStatus) -> u32
     s.present as u32 + 2 * bit1
 }
 
-fn input(i: InputSensor, at: usize, out: &mut [u8])
-    requires { ⌜ at + 4 ≤ length (now out) ⌝ }
-    ensures { λ _. ⌜ now (out .exit) ≡ storedAt at (inputBytes i) (now (out .entry)) ⌝ }
+// The 4 bytes of an input sensor.
+fn input_bytes(i: InputSensor) -> [u8; 4]
+    ensures { λ r. ⌜ r ≡ inputBytes i ⌝ }
 {
-    little_endian::store_two(i.current, at, out);
-    little_endian::store_two(i.voltage, at + 2, out);
+    let first = i.current;
+    let second = i.voltage;
+    [
+        (first % 256) as u8,
+        (first / 256 % 256) as u8,
+        (second % 256) as u8,
+        (second / 256 % 256) as u8,
+    ]
 }
 
-fn sensors(s: BoardSensors, out: &mut [u8])
-    requires { ⌜ 24 ≤ length (now out) ⌝ }
-    ensures { λ _. ⌜ now (out .exit) ≡ storedAt 8 (sensorBytes s) (now (out .entry)) ⌝ }
+// The 16 bytes of the board's sensors, by value: every layout of the values in which they stand so stores
+// them at its own place.
+pub fn sensor_bytes(s: BoardSensors) -> [u8; 16]
+    ensures { λ r. ⌜ r ≡ sensorBytes s ⌝ }
 {
-    let low = s.input_3v3;
-    let main = s.input_12v;
-    let aux = s.input_aux;
-    let inlet = temperature::to_byte(s.inlet);
-    let outlet = temperature::to_byte(s.outlet);
-    little_endian::store(&[inlet, outlet], 8, out);
-    input(low, 10, out);
-    input(main, 14, out);
-    input(aux, 18, out);
+    let low = input_bytes(s.input_3v3);
+    let main = input_bytes(s.input_12v);
+    let aux = input_bytes(s.input_aux);
     // Watts on two bytes, low byte first.
     let watts_low = (s.total_power % 256) as u8;
     let watts_high = (s.total_power / 256 % 256) as u8;
-    little_endian::store(&[watts_low, watts_high], 22, out);
+    [
+        temperature::to_byte(s.inlet),
+        temperature::to_byte(s.outlet),
+        low[0],
+        low[1],
+        low[2],
+        low[3],
+        main[0],
+        main[1],
+        main[2],
+        main[3],
+        aux[0],
+        aux[1],
+        aux[2],
+        aux[3],
+        watts_low,
+        watts_high,
+    ]
 }
 
-fn errors(e: ErrorCounters, at: usize, out: &mut [u8])
-    requires { ⌜ at + 10 ≤ length (now out) ⌝ }
-    ensures { λ _. ⌜ now (out .exit) ≡ storedAt at (errorBytes e) (now (out .entry)) ⌝ }
+// The 10 bytes of a device's error counters, by value for the same reason.
+pub fn error_bytes(e: ErrorCounters) -> [u8; 10]
+    ensures { λ r. ⌜ r ≡ errorBytes e ⌝ }
 {
-    little_endian::store_two(e.ddr_uncorrectable, at, out);
-    little_endian::store_two(e.ddr_correctable, at + 2, out);
-    little_endian::store_two(e.pcie_uncorrectable, at + 4, out);
-    little_endian::store_four(e.pcie_correctable, at + 6, out);
+    [
+        (e.ddr_uncorrectable % 256) as u8,
+        (e.ddr_uncorrectable / 256 % 256) as u8,
+        (e.ddr_correctable % 256) as u8,
+        (e.ddr_correctable / 256 % 256) as u8,
+        (e.pcie_uncorrectable % 256) as u8,
+        (e.pcie_uncorrectable / 256 % 256) as u8,
+        (e.pcie_correctable % 256) as u8,
+        (e.pcie_correctable / 256 % 256) as u8,
+        (e.pcie_correctable / 256 / 256 % 256) as u8,
+        (e.pcie_correctable / 256 / 256 / 256 % 256) as u8,
+    ]
 }
 
 fn device(d: Device, at: usize, out: &mut [u8])
@@ -120,7 +146,7 @@ fn device(d: Device, at: usize, out: &mut [u8])
         temperature::to_byte(d.hbm_temperature),
     ];
     little_endian::store(&front, at, out);
-    errors(counters, at + 3, out);
+    little_endian::store(&error_bytes(counters), at + 3, out);
 }
 
 fn module(m: NetworkModule, at: usize, out: &mut [u8])
@@ -137,20 +163,13 @@ fn module(m: NetworkModule, at: usize, out: &mut [u8])
 pub fn bytes(values: SensorRecord) -> [u8; 64]
     ensures { λ r. ⌜ r ≡ bytesOf values ⌝ }
 {
-    let status = values.status;
-    let security = values.security;
-    let board = values.sensors;
-    let one = values.device1;
-    let two = values.device2;
-    let lower = values.module0;
-    let upper = values.module1;
     let mut out = [0u8; 64];
-    little_endian::store_four(status_word(status), 0, &mut out);
-    little_endian::store_four(security_word(security), 4, &mut out);
-    sensors(board, &mut out);
-    device(one, 24, &mut out);
-    device(two, 37, &mut out);
-    module(lower, 50, &mut out);
-    module(upper, 53, &mut out);
+    little_endian::store_four(status_word(values.status), 0, &mut out);
+    little_endian::store_four(security_word(values.security), 4, &mut out);
+    little_endian::store(&sensor_bytes(values.sensors), 8, &mut out);
+    device(values.device1, 24, &mut out);
+    device(values.device2, 37, &mut out);
+    module(values.module0, 50, &mut out);
+    module(values.module1, 53, &mut out);
     out
 }

@@ -1,7 +1,7 @@
 -- `record_layout::bytes` meets its contract: the parts are stored in turn over zeros.
 -- Assumes nothing.
 use mathlib.Core.List.{List, [], _∷_}
-use mathlib.Core.Path.{ap, _∙_}
+use mathlib.Core.Path.{ap, ap₂, _∙_}
 use Prim.Native.Nat.{ℕ}
 use native.Mathlib.Omega.{arith}
 use lib.ListN.{replicate}
@@ -27,11 +27,17 @@ slice-aggregate-security c = search needs
 security-requires : tie.Need-security-requires
 security-requires c κs = search needs
 
-slice-aggregate-sensors : tie.Need-slice-aggregate-sensors
-slice-aggregate-sensors c = search needs
+sensor-bytes-requires : tie.Need-sensor-bytes-requires
+sensor-bytes-requires c κs = search needs
 
-sensors-requires : tie.Need-sensors-requires
-sensors-requires c κs = search needs
+slice-aggregate-store : tie.Need-slice-aggregate-store
+slice-aggregate-store c = search needs
+
+slice-aggregate-store-2 : tie.Need-slice-aggregate-store-2
+slice-aggregate-store-2 c = search needs
+
+store-requires : tie.Need-store-requires
+store-requires c κs = search needs
 
 slice-aggregate-device : tie.Need-slice-aggregate-device
 slice-aggregate-device c = search needs
@@ -60,7 +66,7 @@ module-requires-2 c κs = search needs
 returns : tie.Need-returns
 unfolding valueBytes statusValues securityValues sensorBytes inputBytes deviceValues errorBytes moduleValues
 returns c =
-    let start = c .before .before .before .before .before .before .before .before .before .before .before .before .before .before .before .before .before .before .before .before .before .before .before .before .before .before .before .before in
+    let start = c .before .before .before .before .before .before .before .before .before .before .before .before .before .before .before .before .before .before .before .before .before .before .before .before .before .before .before .before .before .before in
     let r = start .args .values in
     let good = start .good .0 .1 .1 .1 .1 in
     let held : Held r = (
@@ -87,9 +93,9 @@ returns c =
     ∙ ap (storedAt 50 two)
     (c .before .before .before .before .before .before .before .before .before .before .device .ensures
     ∙ ap (storedAt 33 one)
-    (c .before .before .before .before .before .before .before .before .before .before .before .before .before .sensors2 .ensures
-    ∙ ap (storedAt 17 sensors)
-    (c .before .before .before .before .before .before .before .before .before .before .before .before .before .before .before .before .security2 .ensures ∙ ap (storedAt 8 security) (c .before .before .before .before .before .before .before .before .before .before .before .before .before .before .before .before .before .before .before .status2 .ensures))))))
+    (c .before .before .before .before .before .before .before .before .before .before .before .before .before .store .ensures
+    ∙ ap₂ (storedAt 17) (c .before .before .before .before .before .before .before .before .before .before .before .before .before .before .before .before .sensor-bytes .ensures)
+    (c .before .before .before .before .before .before .before .before .before .before .before .before .before .before .before .before .before .before .security2 .ensures ∙ ap (storedAt 8 security) (c .before .before .before .before .before .before .before .before .before .before .before .before .before .before .before .before .before .before .before .before .before .status2 .ensures))))))
     ∙ in-turn 0 parts zeros (omega arith)
     ∙ stored-between 0 (joined parts) zeros (omega arith) in
     (written, ap valuesIn written ∙ values-again r held)
@@ -102,8 +108,10 @@ bytes-spec =
     status-requires
     slice-aggregate-security
     security-requires
-    slice-aggregate-sensors
-    sensors-requires
+    sensor-bytes-requires
+    slice-aggregate-store
+    slice-aggregate-store-2
+    store-requires
     slice-aggregate-device
     device-requires
     slice-aggregate-device-2

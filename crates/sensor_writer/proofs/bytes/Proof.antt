@@ -1,7 +1,7 @@
 -- `sensor_writer::bytes` meets its contract: the parts are stored in turn over zeros.
 -- Assumes nothing.
 use mathlib.Core.List.{List, [], _∷_}
-use mathlib.Core.Path.{ap, _∙_}
+use mathlib.Core.Path.{ap, ap₂, _∙_}
 use Prim.Native.Nat.{ℕ}
 use native.Mathlib.Omega.{arith}
 use lib.ListN.{replicate}
@@ -30,11 +30,17 @@ slice-aggregate-store-four-2 c = search needs
 store-four-requires-2 : tie.Need-store-four-requires-2
 store-four-requires-2 c κs = search needs
 
-slice-aggregate-sensors : tie.Need-slice-aggregate-sensors
-slice-aggregate-sensors c = search needs
+sensor-bytes-requires : tie.Need-sensor-bytes-requires
+sensor-bytes-requires c κs = search needs
 
-sensors-requires : tie.Need-sensors-requires
-sensors-requires c κs = search needs
+slice-aggregate-store : tie.Need-slice-aggregate-store
+slice-aggregate-store c = search needs
+
+slice-aggregate-store-2 : tie.Need-slice-aggregate-store-2
+slice-aggregate-store-2 c = search needs
+
+store-requires : tie.Need-store-requires
+store-requires c κs = search needs
 
 slice-aggregate-device : tie.Need-slice-aggregate-device
 slice-aggregate-device c = search needs
@@ -63,7 +69,7 @@ module-requires-2 c κs = search needs
 returns : tie.Need-returns
 unfolding bytesOf sensorBytes inputBytes deviceBytes errorBytes moduleBytes
 returns c =
-    let r = c .before .before .before .before .before .before .before .before .before .before .before .before .before .before .before .before .before .before .before .before .before .before .before .before .before .before .before .before .before .before .args .values in
+    let r = c .before .before .before .before .before .before .before .before .before .before .before .before .before .before .before .before .before .before .before .before .before .before .before .before .before .args .values in
     let zeros : List ℕ = replicate 64 0 in
     let status = littleEndian 4 (packed (statusBits (r .status))) in
     let security = littleEndian 4 (packed (securityBits (r .security))) in
@@ -81,12 +87,11 @@ returns c =
     ∙ ap (storedAt 37 two)
     (c .before .before .before .before .before .before .before .before .before .before .device .ensures
     ∙ ap (storedAt 24 one)
-    (c .before .before .before .before .before .before .before .before .before .before .before .before .before .sensors .ensures
-    ∙ ap (storedAt 8 sensors)
-    (c .before .before .before .before .before .before .before .before .before .before .before .before .before .before .before .before .store-four2 .ensures
-    ∙ ap (λ (n : ℕ). storedAt 4 (littleEndian 4 n) (c .before .before .before .before .before .before .before .before .before .before .before .before .before .before .before .before .before .before .before .before .store-four .last .1 .1 .0)) (c .before .before .before .before .before .before .before .before .before .before .before .before .before .before .before .before .before .before .security-word .ensures)
-    ∙ ap (storedAt 4 security)
-    (c .before .before .before .before .before .before .before .before .before .before .before .before .before .before .before .before .before .before .before .before .store-four .ensures ∙ ap (λ (n : ℕ). storedAt 0 (littleEndian 4 n) zeros) (c .before .before .before .before .before .before .before .before .before .before .before .before .before .before .before .before .before .before .before .before .before .before .status-word .ensures)))))))
+    (c .before .before .before .before .before .before .before .before .before .before .before .before .before .store .ensures
+    ∙ ap₂ (storedAt 8) (c .before .before .before .before .before .before .before .before .before .before .before .before .before .before .before .before .sensor-bytes .ensures)
+    (c .before .before .before .before .before .before .before .before .before .before .before .before .before .before .before .before .before .before .store-four2 .ensures
+    ∙ ap₂ (λ (n : ℕ) (l : List ℕ). storedAt 4 (littleEndian 4 n) l) (c .before .before .before .before .before .before .before .before .before .before .before .before .before .before .before .before .before .before .before .before .security-word .ensures)
+    (c .before .before .before .before .before .before .before .before .before .before .before .before .before .before .before .before .before .before .before .before .before .before .store-four .ensures ∙ ap (λ (n : ℕ). storedAt 0 (littleEndian 4 n) zeros) (c .before .before .before .before .before .before .before .before .before .before .before .before .before .before .before .before .before .before .before .before .before .before .before .before .status-word .ensures)))))))
     ∙ in-turn 0 parts zeros (omega arith)
     ∙ stored-between 0 (joined parts) zeros (omega arith)
 
@@ -100,8 +105,10 @@ bytes-spec =
     security-word-requires
     slice-aggregate-store-four-2
     store-four-requires-2
-    slice-aggregate-sensors
-    sensors-requires
+    sensor-bytes-requires
+    slice-aggregate-store
+    slice-aggregate-store-2
+    store-requires
     slice-aggregate-device
     device-requires
     slice-aggregate-device-2

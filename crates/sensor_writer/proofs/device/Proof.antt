@@ -1,7 +1,7 @@
 -- `sensor_writer::device` meets its contract: its front and its counters are stored in turn.
 -- Assumes nothing.
 use mathlib.Core.List.{List, [], _∷_, _++_}
-use mathlib.Core.Path.{_≡_, ap, _∙_}
+use mathlib.Core.Path.{ap₂, _∙_}
 use Prim.Native.Nat.{ℕ, _<_, _+_}
 use native.Mathlib.Omega.{arith}
 use lib.Signed.{mag}
@@ -32,11 +32,17 @@ slice-aggregate-store c = search needs
 store-requires : tie.Need-store-requires
 store-requires c κs = search needs
 
-add-errors : tie.Need-add-errors
-add-errors c = search needs
+error-bytes-requires : tie.Need-error-bytes-requires
+error-bytes-requires c κs = search needs
 
-errors-requires : tie.Need-errors-requires
-errors-requires c κs = search needs
+slice-aggregate-store-2 : tie.Need-slice-aggregate-store-2
+slice-aggregate-store-2 c = search needs
+
+add-store : tie.Need-add-store
+add-store c = let start = c .before .before .before .before .before .before .before .before .before .before .before .before .before .before .before in omega (arith, start .pre, start .fits)
+
+store-requires-2 : tie.Need-store-requires-2
+store-requires-2 c κs = search needs
 
 same-length : tie.Need-same-length
 same-length c = search needs
@@ -44,19 +50,19 @@ same-length c = search needs
 returns : tie.Need-returns
 unfolding deviceBytes errorBytes
 returns c =
-    let start = c .before .before .before .before .before .before .before .before .before .before .before .before .before .before .before .before .before in
+    let start = c .before .before .before .before .before .before .before .before .before .before .before .before .before .before .before .before .before .before .before in
     let a = start .args in
     let d = a .d in
     let fpga : mag (d .«fpga_temperature») < 128 = omega (arith, start .good) in
     let hbm : mag (d .«hbm_temperature») < 128 = omega (arith, start .good) in
     let front : List ℕ = littleEndian 1 (packed (deviceStatusBits (d .status))) ++ (byteOf (d .«fpga_temperature») ∷ byteOf (d .«hbm_temperature») ∷ []) in
-    c .before .before .errors .ensures
-    ∙ ap (storedAt (a .at + 3) (errorBytes (d .errors)))
-    (c .before .before .before .before .before .before .store .ensures
+    c .before .before .store2 .ensures
+    ∙ ap₂ (storedAt (a .at + 3)) (c .before .before .before .before .before .error-bytes .ensures)
+    (c .before .before .before .before .before .before .before .before .store .ensures
     ∙ simp (
-      c .before .before .before .before .before .before .before .before .before .to-byte2 .ensures,
-      c .before .before .before .before .before .before .before .before .before .before .before .to-byte .ensures,
-      c .before .before .before .before .before .before .before .before .before .before .before .before .before .device-status-word .ensures,
+      c .before .before .before .before .before .before .before .before .before .before .before .to-byte2 .ensures,
+      c .before .before .before .before .before .before .before .before .before .before .before .before .before .to-byte .ensures,
+      c .before .before .before .before .before .before .before .before .before .before .before .before .before .before .before .device-status-word .ensures,
       machine-again (d .«fpga_temperature») fpga,
       machine-again (d .«hbm_temperature») hbm,
     ))
@@ -72,7 +78,9 @@ device-spec =
     to-byte-requires-2
     slice-aggregate-store
     store-requires
-    add-errors
-    errors-requires
+    error-bytes-requires
+    slice-aggregate-store-2
+    add-store
+    store-requires-2
     same-length
     returns)

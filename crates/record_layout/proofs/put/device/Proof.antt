@@ -1,7 +1,7 @@
 -- `record_layout::put::device` meets its contract: its front and its counters are stored in turn.
 -- Assumes nothing.
 use mathlib.Core.List.{List, [], _∷_, _++_}
-use mathlib.Core.Path.{ap, _∙_}
+use mathlib.Core.Path.{ap₂, _∙_}
 use Prim.Native.Nat.{ℕ, _<_, _+_}
 use native.Mathlib.Omega.{arith}
 use lib.Signed.{mag}
@@ -27,11 +27,17 @@ slice-aggregate-store c = search needs
 store-requires : tie.Need-store-requires
 store-requires c κs = search needs
 
-add-errors : tie.Need-add-errors
-add-errors c = search needs
+error-bytes-requires : tie.Need-error-bytes-requires
+error-bytes-requires c κs = search needs
 
-errors-requires : tie.Need-errors-requires
-errors-requires c κs = search needs
+slice-aggregate-store-2 : tie.Need-slice-aggregate-store-2
+slice-aggregate-store-2 c = search needs
+
+add-store : tie.Need-add-store
+add-store c = search needs
+
+store-requires-2 : tie.Need-store-requires-2
+store-requires-2 c κs = search needs
 
 same-length : tie.Need-same-length
 same-length c = search needs
@@ -39,16 +45,16 @@ same-length c = search needs
 returns : tie.Need-returns
 unfolding deviceValues errorBytes
 returns c =
-    let start = c .before .before .before .before .before .before .before .before .before .before .before .before .before .before .before .before in
+    let start = c .before .before .before .before .before .before .before .before .before .before .before .before .before .before .before .before .before .before in
     let a = start .args in
     let d = a .d in
     let fpga : mag (d .«fpga_temperature») < 128 = omega (arith, start .good) in
     let hbm : mag (d .«hbm_temperature») < 128 = omega (arith, start .good) in
     let front : List ℕ = deviceStatusValues (d .status) ++ (byteOf (d .«fpga_temperature») ∷ byteOf (d .«hbm_temperature») ∷ []) in
-    c .before .before .errors .ensures
-    ∙ ap (storedAt (a .at + 7) (errorBytes (d .errors)))
-    (c .before .before .before .before .before .before .store .ensures
-    ∙ simp (c .before .before .before .before .before .before .before .before .before .to-byte2 .ensures, c .before .before .before .before .before .before .before .before .before .before .before .to-byte .ensures, machine-again (d .«fpga_temperature») fpga, machine-again (d .«hbm_temperature») hbm))
+    c .before .before .store2 .ensures
+    ∙ ap₂ (storedAt (a .at + 7)) (c .before .before .before .before .before .error-bytes .ensures)
+    (c .before .before .before .before .before .before .before .before .store .ensures
+    ∙ simp (c .before .before .before .before .before .before .before .before .before .before .before .to-byte2 .ensures, c .before .before .before .before .before .before .before .before .before .before .before .before .before .to-byte .ensures, machine-again (d .«fpga_temperature») fpga, machine-again (d .«hbm_temperature») hbm))
     ∙ in-turn (a .at) (front ∷ errorBytes (d .errors) ∷ []) (a .out .now) (start .pre)
 
 pub device-spec : {M : Type 1} → statement M
@@ -59,7 +65,9 @@ device-spec =
     to-byte-requires-2
     slice-aggregate-store
     store-requires
-    add-errors
-    errors-requires
+    error-bytes-requires
+    slice-aggregate-store-2
+    add-store
+    store-requires-2
     same-length
     returns)
