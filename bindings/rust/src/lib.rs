@@ -204,9 +204,9 @@ pub fn plan(
     answered(answer)
 }
 
-/// Runs the script over a region of zeros and over one of 0xFF, in the two lent buffers of `size` bytes, and says
-/// whether any card behind it holds the text's picture. A refusal before the first packet leaves the buffers as they
-/// were; else they hold what the runs came to.
+/// Says whether the script puts the text's image into every card, whatever its flash held before: it runs the script
+/// over zeros and over 0xFF, in the two lent buffers of `size` bytes. Refusals 7 to 12 and a pass leave in them what the
+/// packets that succeeded in both runs left, the others change nothing.
 pub fn check(
     script: &[u8],
     text: &[u8],

@@ -54,7 +54,7 @@ struct Number {
     good: bool,
 }
 
-// The most arguments that are read.
+// The most files that are counted, more than any command wants.
 const MOST: usize = 64;
 
 // The entry address of the vendor's page.
