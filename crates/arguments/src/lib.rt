@@ -20,7 +20,6 @@ enum Option {
     Entry,
     Size,
     Expect,
-    Help,
     Unknown,
 }
 
@@ -141,9 +140,6 @@ fn option_of(word: &[u8]) -> Option {
     if same(word, b"--expect") {
         return Option::Expect;
     }
-    if is_help(word) {
-        return Option::Help;
-    }
     Option::Unknown
 }
 
@@ -154,7 +150,6 @@ fn planning(option: Option) -> bool {
         Option::Entry => true,
         Option::Size => true,
         Option::Expect => false,
-        Option::Help => false,
         Option::Unknown => false,
     }
 }
@@ -166,7 +161,6 @@ fn checking(option: Option) -> bool {
         Option::Entry => false,
         Option::Size => true,
         Option::Expect => true,
-        Option::Help => false,
         Option::Unknown => false,
     }
 }
@@ -178,7 +172,6 @@ fn sizing(option: Option) -> bool {
         Option::Entry => false,
         Option::Size => true,
         Option::Expect => false,
-        Option::Help => false,
         Option::Unknown => false,
     }
 }
@@ -281,17 +274,19 @@ fn with_expect(options: Options, word: &[u8]) -> Options {
     changed
 }
 
+// Whether a word is a decimal number, of which there are at most nine digits.
+fn is_decimal(word: &[u8]) -> bool {
+    if word.len() == 0 {
+        return false;
+    }
+    let number = vector_lines::number_of(word);
+    number.past == word.len()
+}
+
 // Options with the size that a word gives.
 fn with_size(options: Options, word: &[u8]) -> Options {
     let number = vector_lines::number_of(word);
-    if number.past != word.len() {
-        return refuse(
-            options,
-            b"--size wants a number of bytes in decimal, not ",
-            word,
-        );
-    }
-    if number.past == 0 {
+    if !is_decimal(word) {
         return refuse(
             options,
             b"--size wants a number of bytes in decimal, not ",
@@ -315,7 +310,6 @@ fn with_value(option: Option, word: &[u8], argument: usize, options: Options) ->
         Option::Entry => with_entry(changed, word),
         Option::Size => with_size(changed, word),
         Option::Expect => with_expect(changed, word),
-        Option::Help => changed,
         Option::Unknown => changed,
     }
 }

@@ -2,7 +2,7 @@
 -- Assumes nothing.
 use mathlib.Core.Path.{_≡_, sym, _∙_}
 use mathlib.Core.List.{List, [], _∷_, _++_}
-use Prim.Native.Nat.{ℕ, _+_, _^_, _<_}
+use Prim.Native.Nat.{ℕ, _^_, _<_}
 use lib.ListN.{length, getD}
 use lib.Signed.{mag}
 use Rattle.little_endian.specs.Bytes.{Bytes, numberAt}
@@ -11,27 +11,19 @@ use Rattle.temperature.specs.Temperature.{temperatureOf, byteOf}
 use Rattle.temperature.proofs.Laws.{temperature-again, byte-again}
 use Rattle.sensor_values.specs.Layout.{inputBytes, sensorBytes, errorBytes}
 use Rattle.sensor_values.specs.Reading.{inputOf, errorsOf}
-use Rattle.sensor_values.specs.declared.InputSensor.{InputSensor}
+use Rattle.sensor_values.proofs.ValuesAgain.{InputHeld, ErrorsHeld, input-again, errors-again}
+use Rattle.sensor_values.proofs.BytesAgain as written
 use Rattle.sensor_values.specs.declared.BoardSensors.{BoardSensors}
-use Rattle.sensor_values.specs.declared.ErrorCounters.{ErrorCounters}
 use Rattle.sensor_values.specs.declared.Device.{Device}
 use Rattle.sensor_values.specs.declared.SensorRecord.{SensorRecord}
 use Rattle.record_layout.specs.Layout.{statusValues, securityValues, deviceValues, moduleValues, valueBytes}
 use Rattle.record_layout.specs.Reading.{statusIn, securityIn, sensorsIn, deviceIn, moduleIn, valuesIn}
 
 -- numbers that fit their bytes, and temperatures that fit one: so do those of every record that a program holds
-abbrev pub InputHeld : InputSensor → Type 0
-InputHeld i = (i .current < 256 ^ 2) × (i .voltage < 256 ^ 2)
-
 abbrev pub SensorsHeld : BoardSensors → Type 0
 SensorsHeld s =
     (mag (s .inlet) < 128) × (mag (s .outlet) < 128)
     × InputHeld (s .«input_3v3») × InputHeld (s .«input_12v») × InputHeld (s .«input_aux») × (s .«total_power» < 256 ^ 2)
-
-abbrev pub ErrorsHeld : ErrorCounters → Type 0
-ErrorsHeld e =
-    (e .«ddr_uncorrectable» < 256 ^ 2) × (e .«ddr_correctable» < 256 ^ 2)
-    × (e .«pcie_uncorrectable» < 256 ^ 2) × (e .«pcie_correctable» < 256 ^ 4)
 
 abbrev pub DeviceHeld : Device → Type 0
 DeviceHeld d = (mag (d .«fpga_temperature») < 128) × (mag (d .«hbm_temperature») < 128) × ErrorsHeld (d .errors)
@@ -40,22 +32,6 @@ abbrev pub Held : SensorRecord → Type 0
 Held r =
     SensorsHeld (r .sensors) × DeviceHeld (r .device1) × DeviceHeld (r .device2)
     × (mag (r .module0 .temperature) < 128) × (mag (r .module1 .temperature) < 128)
-
-input-again : (i : InputSensor) → InputHeld i → inputOf 0 (inputBytes i) ≡ i
-unfolding inputOf inputBytes numberAt
-input-again s (current, voltage) = λ i. record {
-  current = number-again 2 (s .current) current i;
-  voltage = number-again 2 (s .voltage) voltage i;
-}
-
-errors-again : (e : ErrorCounters) → ErrorsHeld e → errorsOf 0 (errorBytes e) ≡ e
-unfolding errorsOf errorBytes numberAt
-errors-again e (first, second, third, fourth) = λ i. record {
-  «ddr_uncorrectable» = number-again 2 (e .«ddr_uncorrectable») first i;
-  «ddr_correctable» = number-again 2 (e .«ddr_correctable») second i;
-  «pcie_uncorrectable» = number-again 2 (e .«pcie_uncorrectable») third i;
-  «pcie_correctable» = number-again 4 (e .«pcie_correctable») fourth i;
-}
 
 device-again : (d : Device) → DeviceHeld d → deviceIn 0 (deviceValues d) ≡ d
 unfolding deviceIn deviceValues errorsOf errorBytes numberAt
@@ -90,19 +66,10 @@ module _ (b : List ℕ) (bytes : Bytes b) where
   degrees : (at : ℕ) → byteOf (temperatureOf (getD b at 0)) ≡ getD b at 0
   degrees at = byte-again (getD b at 0) (bytes at)
 
-  input-bytes : (at : ℕ) → inputBytes (inputOf at b) ≡ stretch 2 at b ++ stretch 2 (at + 2) b
-  unfolding inputOf inputBytes
-  input-bytes at = λ i. bytes-again b bytes 2 at i ++ bytes-again b bytes 2 (at + 2) i
-
   sensor-bytes : sensorBytes (sensorsIn b) ≡ stretch 16 17 b
   unfolding sensorBytes sensorsIn
   sensor-bytes = λ i.
-      (degrees 17 i ∷ degrees 18 i ∷ []) ++ input-bytes 19 i ++ input-bytes 23 i ++ input-bytes 27 i ++ bytes-again b bytes 2 31 i
-
-  error-bytes : (at : ℕ) → errorBytes (errorsOf at b) ≡ stretch 2 at b ++ stretch 2 (at + 2) b ++ stretch 2 (at + 4) b ++ stretch 4 (at + 6) b
-  unfolding errorsOf errorBytes
-  error-bytes at = λ i.
-      bytes-again b bytes 2 at i ++ bytes-again b bytes 2 (at + 2) i ++ bytes-again b bytes 2 (at + 4) i ++ bytes-again b bytes 4 (at + 6) i
+      (degrees 17 i ∷ degrees 18 i ∷ []) ++ written.input-again b bytes 19 i ++ written.input-again b bytes 23 i ++ written.input-again b bytes 27 i ++ bytes-again b bytes 2 31 i
 
   -- the bytes are written again
   pub values-written : length b ≡ 87 → valueBytes (valuesIn b) ≡ b
@@ -110,7 +77,7 @@ module _ (b : List ℕ) (bytes : Bytes b) where
   values-written l =
       (λ i.
       stretch 17 0 b ++ (sensor-bytes i
-      ++ ((stretch 5 33 b ++ (degrees 38 i ∷ degrees 39 i ∷ error-bytes 40 i))
-      ++ ((stretch 5 50 b ++ (degrees 55 i ∷ degrees 56 i ∷ error-bytes 57 i))
+      ++ ((stretch 5 33 b ++ (degrees 38 i ∷ degrees 39 i ∷ written.errors-again b bytes 40 i))
+      ++ ((stretch 5 50 b ++ (degrees 55 i ∷ degrees 56 i ∷ written.errors-again b bytes 57 i))
       ++ ((degrees 67 i ∷ stretch 9 68 b) ++ (degrees 77 i ∷ stretch 9 78 b))))))
       ∙ sym (stretched b 0 87 l)

@@ -41,7 +41,7 @@ module _ (b : List ℕ) (bytes : Bytes b) where
       word (moduleStatusBits (moduleStatusOf (numberAt 2 at b))) (numberAt 2 at b)
       (refl, (refl, (refl, (refl, (refl, (refl, (refl, (refl, (refl, (sym z, tt)))))))))) (number-lt b bytes 2 at)
 
-  input-again : (at : ℕ) → inputBytes (inputOf at b) ≡ stretch 2 at b ++ stretch 2 (at + 2) b
+  pub input-again : (at : ℕ) → inputBytes (inputOf at b) ≡ stretch 2 at b ++ stretch 2 (at + 2) b
   unfolding inputOf inputBytes
   input-again at = λ i. bytes-again b bytes 2 at i ++ bytes-again b bytes 2 (at + 2) i
 
@@ -51,7 +51,7 @@ module _ (b : List ℕ) (bytes : Bytes b) where
       (byte-again (getD b 8 0) (bytes 8) i ∷ byte-again (getD b 9 0) (bytes 9) i ∷ [])
       ++ input-again 10 i ++ input-again 14 i ++ input-again 18 i ++ bytes-again b bytes 2 22 i
 
-  errors-again : (at : ℕ) → errorBytes (errorsOf at b) ≡ stretch 2 at b ++ stretch 2 (at + 2) b ++ stretch 2 (at + 4) b ++ stretch 4 (at + 6) b
+  pub errors-again : (at : ℕ) → errorBytes (errorsOf at b) ≡ stretch 2 at b ++ stretch 2 (at + 2) b ++ stretch 2 (at + 4) b ++ stretch 4 (at + 6) b
   unfolding errorsOf errorBytes
   errors-again at = λ i.
       bytes-again b bytes 2 at i ++ bytes-again b bytes 2 (at + 2) i ++ bytes-again b bytes 2 (at + 4) i ++ bytes-again b bytes 4 (at + 6) i

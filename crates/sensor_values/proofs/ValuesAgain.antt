@@ -3,6 +3,7 @@
 use mathlib.Core.Path.{_≡_, refl, ap, _∙_}
 use mathlib.Core.Bool.{true, not}
 use mathlib.Core.List.{[], _∷_}
+use Prim.Native.Nat.{_<_, _^_}
 use native.Mathlib.Nat.{mod-eq-of-lt}
 use borrow.Author.Tests.{ltb-true}
 use lib.Dec.{eqb}
@@ -79,11 +80,19 @@ module-status-again s h = λ i. record {
   «over_current» = field (moduleStatusBits s) 8 h i;
 }
 
-input-again : (i : InputSensor) → inputFits i ≡ true → inputOf 0 (inputBytes i) ≡ i
-unfolding inputFits inputOf inputBytes numberAt
-input-again s e = let f = fit (16 wide s .current ∷ 16 wide s .voltage ∷ []) e in λ i. record {
-  current = number-again 2 (s .current) (f .0) i;
-  voltage = number-again 2 (s .voltage) (f .1 .0) i;
+-- the numbers of an input sensor fit their bytes
+abbrev pub InputHeld : InputSensor → Type 0
+InputHeld i = (i .current < 256 ^ 2) × (i .voltage < 256 ^ 2)
+
+input-held : (i : InputSensor) → inputFits i ≡ true → InputHeld i
+unfolding inputFits
+input-held i e = let f = fit (16 wide i .current ∷ 16 wide i .voltage ∷ []) e in (f .0, f .1 .0)
+
+pub input-again : (i : InputSensor) → InputHeld i → inputOf 0 (inputBytes i) ≡ i
+unfolding inputOf inputBytes numberAt
+input-again s (current, voltage) = λ i. record {
+  current = number-again 2 (s .current) current i;
+  voltage = number-again 2 (s .voltage) voltage i;
 }
 
 sensors-again : (r : SensorRecord) → sensorsFit (r .sensors) ≡ true → sensorsOf (bytesOf r) ≡ r .sensors
@@ -96,24 +105,34 @@ sensors-again r e =
     λ i. record {
       inlet = temperature-again (s .inlet) (ltb-true _ _ (f .0)) i;
       outlet = temperature-again (s .outlet) (ltb-true _ _ (f .1 .0)) i;
-      «input_3v3» = input-again (s .«input_3v3») (f .1 .1 .0) i;
-      «input_12v» = input-again (s .«input_12v») (f .1 .1 .1 .0) i;
-      «input_aux» = input-again (s .«input_aux») (f .1 .1 .1 .1 .0) i;
+      «input_3v3» = input-again (s .«input_3v3») (input-held (s .«input_3v3») (f .1 .1 .0)) i;
+      «input_12v» = input-again (s .«input_12v») (input-held (s .«input_12v») (f .1 .1 .1 .0)) i;
+      «input_aux» = input-again (s .«input_aux») (input-held (s .«input_aux») (f .1 .1 .1 .1 .0)) i;
       «total_power» = number-again 2 (s .«total_power») (fit (16 wide s .«total_power» ∷ []) (f .1 .1 .1 .1 .1 .0) .0) i;
     }
 
-errors-again : (e : ErrorCounters) → errorsFit e ≡ true → errorsOf 0 (errorBytes e) ≡ e
-unfolding errorsFit errorsOf errorBytes numberAt
-errors-again e h =
+-- the numbers of a device's error counters fit their bytes
+abbrev pub ErrorsHeld : ErrorCounters → Type 0
+ErrorsHeld e =
+    (e .«ddr_uncorrectable» < 256 ^ 2) × (e .«ddr_correctable» < 256 ^ 2)
+    × (e .«pcie_uncorrectable» < 256 ^ 2) × (e .«pcie_correctable» < 256 ^ 4)
+
+errors-held : (e : ErrorCounters) → errorsFit e ≡ true → ErrorsHeld e
+unfolding errorsFit
+errors-held e h =
     let f = fit
     (16 wide e .«ddr_uncorrectable» ∷ 16 wide e .«ddr_correctable»
     ∷ 16 wide e .«pcie_uncorrectable» ∷ 32 wide e .«pcie_correctable» ∷ []) h in
-    λ i. record {
-      «ddr_uncorrectable» = number-again 2 (e .«ddr_uncorrectable») (f .0) i;
-      «ddr_correctable» = number-again 2 (e .«ddr_correctable») (f .1 .0) i;
-      «pcie_uncorrectable» = number-again 2 (e .«pcie_uncorrectable») (f .1 .1 .0) i;
-      «pcie_correctable» = number-again 4 (e .«pcie_correctable») (f .1 .1 .1 .0) i;
-    }
+    (f .0, f .1 .0, f .1 .1 .0, f .1 .1 .1 .0)
+
+pub errors-again : (e : ErrorCounters) → ErrorsHeld e → errorsOf 0 (errorBytes e) ≡ e
+unfolding errorsOf errorBytes numberAt
+errors-again e (first, second, third, fourth) = λ i. record {
+  «ddr_uncorrectable» = number-again 2 (e .«ddr_uncorrectable») first i;
+  «ddr_correctable» = number-again 2 (e .«ddr_correctable») second i;
+  «pcie_uncorrectable» = number-again 2 (e .«pcie_uncorrectable») third i;
+  «pcie_correctable» = number-again 4 (e .«pcie_correctable») fourth i;
+}
 
 device-again : (d : Device) → deviceFits d ≡ true → deviceOf 0 (deviceBytes d) ≡ d
 unfolding deviceFits deviceOf deviceBytes errorsOf errorBytes numberAt
@@ -125,7 +144,7 @@ device-again d e =
       status = (ap deviceStatusOf (mod-eq-of-lt (packed-lt bits h)) ∙ device-status-again (d .status) h) i;
       «fpga_temperature» = temperature-again (d .«fpga_temperature») (ltb-true _ _ (f .1 .0)) i;
       «hbm_temperature» = temperature-again (d .«hbm_temperature») (ltb-true _ _ (f .1 .1 .0)) i;
-      errors = errors-again (d .errors) (f .1 .1 .1 .0) i;
+      errors = errors-again (d .errors) (errors-held (d .errors) (f .1 .1 .1 .0)) i;
     }
 
 module-fit : (m : NetworkModule) → moduleFits m ≡ true → Fit (moduleStatusBits (m .status))
