@@ -1,22 +1,33 @@
-//! The program `picture` beside `srec_cat` (the package srecord), each from its start to its end, on the same files.
-//! Nothing is shown where `srec_cat` is not installed.
+//! `cardtool picture` beside `srec_cat` (the package srecord), each from its start to its end, on the same files. Both
+//! write their regions, in memory where the system has a file system there; ours sees its file onto the device and
+//! computes its checksum besides. Nothing is shown where `srec_cat` is not installed.
 
 use crate::texts::Text;
 use crate::watch::{timed, Spread};
-use std::fs::{self, File};
+use std::fs;
 use std::io;
 use std::path::Path;
 use std::process::{Command, Stdio};
 
 const STARTS: usize = 5;
-const PICTURE: &str = "target/bin/picture";
+const CARDTOOL: &str = "target/bin/cardtool";
+
+/// Where the programs read and write.
+fn folder() -> &'static str {
+    if Path::new("/dev/shm").is_dir() {
+        "/dev/shm"
+    } else {
+        "target"
+    }
+}
 
 /// Best and median of a program's runs, for each byte of its input.
-fn time_program(path: &Path, words: &[&str], bytes: usize) -> io::Result<Spread> {
+fn time_program(line: &str, bytes: usize) -> io::Result<Spread> {
+    let words: Vec<&str> = line.split(' ').collect();
     let mut times = Vec::new();
     for _ in 0..STARTS {
         let mut program = Command::new(words[0]);
-        program.args(&words[1..]).stdin(File::open(path)?);
+        program.args(&words[1..]).stdin(Stdio::null());
         program.stdout(Stdio::null()).stderr(Stdio::null());
         let (ended, took) = timed(|| program.status());
         ended?;
@@ -25,20 +36,19 @@ fn time_program(path: &Path, words: &[&str], bytes: usize) -> io::Result<Spread>
     Ok(Spread::of(&times))
 }
 
-fn show_text(text: &Text, path: &Path) -> io::Result<()> {
-    fs::write(path, &text.bytes)?;
-    let name = path.to_str().expect("a plain name");
-    // No -fill: over scattered segments that filter alone takes a minute.
-    let srec_cat = "srec_cat -disable-sequence-warning FILE -ti_txt -o /dev/null -binary";
-    let srec_cat: Vec<&str> = srec_cat
-        .split(' ')
-        .map(|word| if word == "FILE" { name } else { word })
-        .collect();
+fn show_text(text: &Text) -> io::Result<()> {
+    let file = format!("{}/zlatopysk_bench.txt", folder());
+    let region = format!("{}/zlatopysk_bench.bin", folder());
+    fs::write(&file, &text.bytes)?;
     let bytes = text.bytes.len();
-    let picture = time_program(path, &[PICTURE, "262144"], bytes)?;
-    let other = time_program(path, &srec_cat, bytes)?;
+    let ours = time_program(&format!("{CARDTOOL} picture {file} {region} --force"), bytes)?;
+    // No -fill: over scattered segments that filter alone takes a minute.
+    let theirs = format!("srec_cat -disable-sequence-warning {file} -ti_txt -o {region} -binary");
+    let theirs = time_program(&theirs, bytes)?;
+    fs::remove_file(&file)?;
+    fs::remove_file(&region)?;
     print!("{:<22} {bytes:>8}", text.name);
-    for spread in [picture, other] {
+    for spread in [ours, theirs] {
         print!("  {:>7.2} {:>7.2}", spread.best, spread.median);
     }
     println!();
@@ -50,17 +60,17 @@ pub fn show(texts: &[&Text]) {
     if asked.is_err() {
         return;
     }
-    if !Path::new(PICTURE).exists() {
-        println!("\n{PICTURE} is not there, so it is not timed beside srec_cat: rt check picture builds it");
+    if !Path::new(CARDTOOL).exists() {
+        println!("\n{CARDTOOL} is not there, so it is not timed beside srec_cat: ./cardtool builds it");
         return;
     }
     println!("\nprograms, ns per byte, best and median of {STARTS}");
     println!(
-        "{:<32}  picture          srec_cat",
+        "{:<32}  cardtool picture srec_cat",
         "text                      bytes"
     );
     for text in texts {
-        if let Err(why) = show_text(text, Path::new("target/bench_text.txt")) {
+        if let Err(why) = show_text(text) {
             println!("{}: {why}", text.name);
         }
     }

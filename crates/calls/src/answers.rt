@@ -67,7 +67,7 @@ fn replied(count: usize, success: bool, mode: Mode, region: &[u8], reply: &[u8])
     mode_name(mode);
     region_checksum(region);
     show::text(b", rest");
-    show::kept(vector_lines::every(&reply[count..], BEFORE));
+    show::kept(byte_parts::every(&reply[count..], BEFORE));
 }
 
 // One call with just what is lent to it.
@@ -88,7 +88,7 @@ fn call_with(
     match answer {
         Answer::Refused(why) => {
             let same = same_state(before, after);
-            let kept = (crc::checksum(region) == sum) & vector_lines::every(reply, BEFORE);
+            let kept = (crc::checksum(region) == sum) & byte_parts::every(reply, BEFORE);
             refused(why, same & kept);
         }
         Answer::Replied { count, success } => replied(count, success, mode, region, reply),
@@ -138,7 +138,7 @@ fn line(words: &[u8]) {
 fn lines(text: &[u8]) {
     let mut at = 0;
     while at < text.len() {
-        let next = vector_lines::line_at(text, at);
+        let next = byte_parts::line_at(text, at);
         line(next);
         at = at + next.len() + 1;
     }

@@ -3,8 +3,8 @@ use crate::answers;
 use crate::settings;
 use crate::settings::Order;
 use crate::settings::Setup;
+use byte_parts::behind;
 use card::Card;
-use vector_lines::behind;
 use vector_lines::packets;
 use vector_lines::show;
 
@@ -95,13 +95,13 @@ fn line(
 }
 
 pub fn run(input: &[u8]) {
-    let mut region = vector_lines::region_room();
+    let mut region = input_rooms::region_room();
     let mut password = [0xFFu8; 300];
     let mut bytes = [0u8; 16400];
     let mut setup = settings::start();
     let mut at = 0;
     while at < input.len() {
-        let next = vector_lines::line_at(input, at);
+        let next = byte_parts::line_at(input, at);
         at = at + next.len() + 1;
         setup = line(next, setup, &mut bytes, &mut password, &mut region);
         show::line_end();

@@ -1,12 +1,12 @@
 // The settings of a line: the card's state, and the lengths of what is lent to it.
 use application::Version;
+use byte_parts::behind;
 use card::Card;
 use loader::Loader;
 use loader::Mode;
 use region::same;
 use sensor_values::BoardStatus;
 use sensor_values::SensorRecord;
-use vector_lines::behind;
 use vector_lines::number_of;
 use vector_lines::packets;
 

@@ -30,7 +30,7 @@ fn verdict(answer: Answer) {
 // A trial buffer: its checksum, and whether it is as it was lent.
 fn described(buffer: &[u8]) {
     show::hex(crc::checksum(buffer) as usize, 4);
-    show::kept(vector_lines::every(buffer, BEFORE));
+    show::kept(byte_parts::every(buffer, BEFORE));
 }
 
 // A script checked with just what is lent.

@@ -3,8 +3,8 @@ use crate::answers;
 use crate::scripts;
 use crate::settings;
 use crate::settings::Setup;
-use vector_lines::behind;
-use vector_lines::part_at;
+use byte_parts::behind;
+use byte_parts::part_at;
 use vector_lines::show;
 use vector_lines::words::text_of;
 
@@ -57,13 +57,13 @@ fn line(words: &[u8], script: &mut [u8], text: &mut [u8], zeros: &mut [u8], ones
 }
 
 pub fn run(input: &[u8]) {
-    let mut script = vector_lines::script_room();
-    let mut text = vector_lines::text_room();
-    let mut zeros = vector_lines::region_room();
-    let mut ones = vector_lines::region_room();
+    let mut script = input_rooms::script_room();
+    let mut text = input_rooms::text_room();
+    let mut zeros = input_rooms::region_room();
+    let mut ones = input_rooms::region_room();
     let mut at = 0;
     while at < input.len() {
-        let next = vector_lines::line_at(input, at);
+        let next = byte_parts::line_at(input, at);
         line(next, &mut script, &mut text, &mut zeros, &mut ones);
         show::line_end();
         at = at + next.len() + 1;

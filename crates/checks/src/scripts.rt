@@ -1,11 +1,11 @@
 // The script of a line, made step by step over the front of a buffer. Each step says how many bytes
 // there are then; what the buffer has no room for is left out.
+use byte_parts::behind;
+use byte_parts::part_at;
 use planner::Planned;
 use region::same;
-use vector_lines::behind;
 use vector_lines::number_of;
 use vector_lines::packets;
-use vector_lines::part_at;
 use vector_lines::show;
 ghost use Prim.Native.Nat.{_≤_};
 ghost use lib.ListN.{length};

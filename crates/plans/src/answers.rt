@@ -36,7 +36,7 @@ fn refused(why: Refusal, place: usize, out: &[u8]) {
     show::text(b" ");
     show::refused(refusal::number(why), place);
     show::text(b",");
-    show::kept(vector_lines::every(out, BEFORE));
+    show::kept(byte_parts::every(out, BEFORE));
 }
 
 // Sends the packets over a region to a loader that expects the checksum of the picture, which the reader
@@ -66,8 +66,8 @@ fn send(
 
 // Sends the packets over a region of the size.
 fn send_over(script: &[u8], count: usize, password: &[u8], text: &[u8], size: usize) {
-    let mut picture = vector_lines::region_room();
-    let mut region = vector_lines::region_room();
+    let mut picture = input_rooms::region_room();
+    let mut region = input_rooms::region_room();
     if region.len() < size {
         show::text(b" no region of that length");
         return;
@@ -88,7 +88,7 @@ fn described(script: &[u8], count: usize, behind: &[u8]) {
     show::text(b" packets, checksum");
     show::hex(crc::checksum(script) as usize, 4);
     show::text(b", rest");
-    show::kept(vector_lines::every(behind, BEFORE));
+    show::kept(byte_parts::every(behind, BEFORE));
 }
 
 // What was planned over the front of the output.

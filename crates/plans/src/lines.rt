@@ -1,9 +1,9 @@
 // The lines: each one's order and numbers read, its text made, planned and answered.
 use crate::answers;
 use crate::answers::Asked;
-use vector_lines::behind;
+use byte_parts::behind;
+use byte_parts::part_at;
 use vector_lines::number_of;
-use vector_lines::part_at;
 use vector_lines::show;
 use vector_lines::words::text_of;
 
@@ -81,11 +81,11 @@ fn line(words: &[u8], text: &mut [u8], out: &mut [u8]) {
 }
 
 pub fn run(input: &[u8]) {
-    let mut text = vector_lines::text_room();
-    let mut out = vector_lines::text_room();
+    let mut text = input_rooms::text_room();
+    let mut out = input_rooms::text_room();
     let mut at = 0;
     while at < input.len() {
-        let next = vector_lines::line_at(input, at);
+        let next = byte_parts::line_at(input, at);
         line(next, &mut text, &mut out);
         show::line_end();
         at = at + next.len() + 1;

@@ -1,8 +1,8 @@
 // The packets of a script: counted, listed, and sent to a loader.
+use byte_parts::behind;
 use loader::Loader;
 use loader::Mode;
 use packet::Command;
-use vector_lines::behind;
 use vector_lines::show;
 ghost use Prim.Native.Nat.{_-_, _≤_};
 ghost use lib.ListN.{length};

@@ -3,8 +3,7 @@
 // input.
 use libc::STDERR_FILENO;
 use libc::STDOUT_FILENO;
-ghost use Prim.Native.Nat.{_≤_};
-ghost use lib.ListN.{length};
+use little_endian::byte_at;
 
 // The most bytes of a line.
 const ROOM: usize = 256;
@@ -44,6 +43,17 @@ impl Line {
         line
     }
 
+    // The line with a name behind it that came from outside, without its control characters.
+    pub fn name(self, words: &[u8]) -> Line {
+        let mut line = self;
+        let mut before = 0;
+        for i in 0..words.len() {
+            line = line.byte(shown(before, words[i], byte_at(words, i + 1)));
+            before = words[i];
+        }
+        line
+    }
+
     // The line with a byte behind it so many times.
     pub fn repeat(self, b: u8, count: usize) -> Line {
         let mut line = self;
@@ -77,6 +87,15 @@ impl Line {
         self.to(less(column, count)).text(&digits[..count])
     }
 
+    // The line with a number of things behind it: `1 packet`, `2 packets`.
+    pub fn count(self, n: usize, thing: &[u8]) -> Line {
+        let line = self.decimal(n).text(b" ").text(thing);
+        if n == 1 {
+            return line;
+        }
+        line.text(b"s")
+    }
+
     // The line with 0x and a number behind it in hexadecimal digits.
     pub fn hex(self, n: usize) -> Line {
         self.text(b"0x").code(n, 1)
@@ -100,6 +119,33 @@ impl Line {
     }
 }
 
+// Whether a byte is a control character where no letter of UTF-8 goes on with it.
+fn is_late_control(b: u8) -> bool {
+    match b {
+        0x80..=0x9F => true,
+        _ => false,
+    }
+}
+
+// Whether a byte can end a control character of two bytes, or be one by itself.
+fn is_alone(before: u8) -> bool {
+    match before {
+        0x00..=0x7F | 0xC2 => true,
+        _ => false,
+    }
+}
+
+// A byte of a name as it may be sent to a terminal, by its neighbours: a question mark for a control character. In UTF-8
+// those above 0x7f are 0xc2 and a byte from 0x80 to 0x9f, which goes on with a letter after any other byte.
+pub fn shown(before: u8, b: u8, after: u8) -> u8 {
+    match b {
+        0x00..=0x1F | 0x7F => b'?',
+        0x80..=0x9F => if is_alone(before) { b'?' } else { b },
+        0xC2 => if is_late_control(after) { b'?' } else { b },
+        _ => b,
+    }
+}
+
 // The difference of two numbers, 0 where it would be below.
 fn less(a: usize, b: usize) -> usize {
     if a < b {
@@ -108,19 +154,9 @@ fn less(a: usize, b: usize) -> usize {
     a - b
 }
 
-// The first bytes of a list, at most so many.
-pub fn front(bytes: &[u8], count: usize) -> &[u8]
-    ensures { λ r. ⌜ length (now r) ≤ length (now (bytes .entry)) ⌝ }
-{
-    if bytes.len() < count {
-        return bytes;
-    }
-    &bytes[..count]
-}
-
 // Writes a line and its end.
 fn print_to(descriptor: i32, line: Line) {
     let ended = line.byte(b'\n');
     let bytes = ended.bytes;
-    io::write_all(descriptor, front(&bytes, ended.held));
+    io::write_all(descriptor, byte_parts::front(&bytes, ended.held));
 }

@@ -1,8 +1,8 @@
 // The lines of texts: each text made, read into a region, and answered.
+use byte_parts::behind;
 use refusal::Refusal;
 use text_image::Verdict;
 use vector_lines::Number;
-use vector_lines::behind;
 use vector_lines::show;
 use vector_lines::words;
 ghost use Prim.Native.Nat.{_≤_};
@@ -16,7 +16,7 @@ fn refused(why: Refusal, place: usize, region: &[u8]) {
     show::text(b" ");
     show::refused(refusal::number(why), place);
     show::text(b",");
-    show::kept(vector_lines::every(region, BEFORE));
+    show::kept(byte_parts::every(region, BEFORE));
 }
 
 // A text read into a region.
@@ -78,11 +78,11 @@ fn line(words: &[u8], text: &mut [u8], region: &mut [u8]) {
 }
 
 pub fn run(input: &[u8]) {
-    let mut text = vector_lines::text_room();
-    let mut region = vector_lines::region_room();
+    let mut text = input_rooms::text_room();
+    let mut region = input_rooms::region_room();
     let mut at = 0;
     while at < input.len() {
-        let next = vector_lines::line_at(input, at);
+        let next = byte_parts::line_at(input, at);
         line(next, &mut text, &mut region);
         show::line_end();
         at = at + next.len() + 1;

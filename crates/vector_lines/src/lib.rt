@@ -1,42 +1,22 @@
 // What the programs have in common: lines and their labels found, numbers and bytes read from
 // words, the text that words stand for (`words`), bytes and packets (`packets`), numbers asked for by
-// arguments, a password, room for a firmware text, a script and a region, and answers printed (`show`). None
+// arguments, a password, and answers printed (`show`). None
 // of these functions asks anything of its input.
 pub mod packets;
 pub mod show;
 pub mod words;
 
+use byte_parts::behind;
+use byte_parts::find;
 use firmware_text::digit_of;
 ghost use mathlib.Core.Path.{_≡_};
-ghost use Prim.Native.Nat.{_-_, _<_, _≤_};
+ghost use Prim.Native.Nat.{_<_, _≤_};
 ghost use lib.ListN.{length};
 
 // A decimal number, and the place behind its digits.
 pub struct Number {
     pub value: usize,
     pub past: usize,
-}
-
-// Room for a firmware text one byte longer than any that is read, so that a longer one is seen.
-pub fn text_room() -> [u8; 1048577]
-    ensures { λ r. ⌜ 1048577 ≡ length r ⌝ }
-{
-    [0; 1048577]
-}
-
-// Room for a script one byte longer than any that is checked, so that a longer one is seen, and for every
-// one that is planned.
-pub fn script_room() -> [u8; 2097153]
-    ensures { λ r. ⌜ 2097153 ≡ length r ⌝ }
-{
-    [0; 2097153]
-}
-
-// Room for a region one step longer than the longest, so that its size too can be asked for.
-pub fn region_room() -> [u8; 266240]
-    ensures { λ r. ⌜ 266240 ≡ length r ⌝ }
-{
-    [0; 266240]
 }
 
 // The bytes 0, 1, 2 .. 255, 0, 1 .. of which a password is lent.
@@ -48,56 +28,6 @@ pub fn secret() -> [u8; 300]
         bytes[i] = (i % 256) as u8;
     }
     bytes
-}
-
-// The place of the first such byte, or the end.
-pub fn find(text: &[u8], wanted: u8) -> usize
-    ensures { λ r. ⌜ r ≤ length (now (text .entry)) ⌝ }
-{
-    let mut i = 0;
-    while i < text.len() {
-        if text[i] == wanted {
-            return i;
-        }
-        i += 1;
-    }
-    i
-}
-
-// Whether every byte is the value.
-pub fn every(bytes: &[u8], value: u8) -> bool {
-    for i in 0..bytes.len() {
-        if bytes[i] != value {
-            return false;
-        }
-    }
-    true
-}
-
-// What stands from a place on, nothing if the place is past the end.
-pub fn behind(words: &[u8], at: usize) -> &[u8]
-    ensures { λ r. ⌜ length (now r) ≤ length (now (words .entry)) - at ⌝ }
-{
-    if words.len() <= at {
-        return &words[words.len()..];
-    }
-    &words[at..]
-}
-
-// What stands from a place on before the next such byte.
-pub fn part_at(text: &[u8], at: usize, end: u8) -> &[u8]
-    ensures { λ r. ⌜ length (now r) ≤ length (now (text .entry)) - at ⌝ }
-{
-    let rest = behind(text, at);
-    let n = find(rest, end);
-    &rest[..n]
-}
-
-// The line from a place on, without its end.
-pub fn line_at(text: &[u8], at: usize) -> &[u8]
-    ensures { λ r. ⌜ length (now r) ≤ length (now (text .entry)) - at ⌝ }
-{
-    part_at(text, at, b'\n')
 }
 
 // Prints the label of a line, and hands back what stands behind its colon and a space. A line

@@ -1,11 +1,11 @@
 // The bytes that the words of a line stand for: two hexadecimal digits are a byte, `256*ff` is a byte so
 // many times, `00..ff` the bytes from one to another, `@1f780` the four bytes of an address, low byte
 // first; words in brackets are a core, which stands for the packet around it.
-use crate::behind;
-use crate::find;
 use crate::number_of;
-use crate::part_at;
 use crate::show;
+use byte_parts::behind;
+use byte_parts::find;
+use byte_parts::part_at;
 use firmware_text::digit_of;
 ghost use Prim.Native.Nat.{_-_, _≤_};
 ghost use lib.ListN.{length};

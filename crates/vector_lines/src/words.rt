@@ -1,9 +1,9 @@
 // The text that the words of a line stand for: \n, \r, \t, \0 and \\ mean these bytes, and
 // `HEAD*COUNT UNIT*TAIL` the head, the unit so many times and the tail, where the tail may go on with a
 // star, a count and a unit.
-use crate::behind;
 use crate::number_of;
-use crate::part_at;
+use byte_parts::behind;
+use byte_parts::part_at;
 ghost use Prim.Native.Nat.{_<_, _≤_};
 ghost use lib.ListN.{length};
 

@@ -38,7 +38,7 @@ fn line(text: &[u8]) {
 pub fn run(text: &[u8]) {
     let mut at = 0;
     while at < text.len() {
-        let next = vector_lines::line_at(text, at);
+        let next = byte_parts::line_at(text, at);
         line(next);
         show::line_end();
         at = at + next.len() + 1;

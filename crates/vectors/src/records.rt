@@ -298,7 +298,7 @@ fn write_over(values: SensorRecord, out: &mut [u8]) {
         WroteRecord::Refused(why) => refused(why),
         WroteRecord::Written => show::text(b" written"),
     }
-    if vector_lines::every(out, 0xEE) {
+    if byte_parts::every(out, 0xEE) {
         show::text(b", output as it was");
         return;
     }

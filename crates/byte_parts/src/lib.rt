@@ -1,0 +1,72 @@
+// Parts of byte strings: their first bytes, what stands from a place on, a line, and what every byte is. None of
+// these functions asks anything of its input: a part that is not there is empty.
+ghost use Prim.Native.Nat.{_-_, _≤_};
+ghost use lib.ListN.{length};
+
+// The first bytes of a list, at most so many.
+pub fn front(bytes: &[u8], count: usize) -> &[u8]
+    ensures { λ r. ⌜ length (now r) ≤ length (now (bytes .entry)) ⌝ }
+{
+    if bytes.len() < count {
+        return bytes;
+    }
+    &bytes[..count]
+}
+
+// The same of a list that may be changed.
+pub fn front_mut(bytes: &mut [u8], count: usize) -> &mut [u8] {
+    if bytes.len() < count {
+        return bytes;
+    }
+    &mut bytes[..count]
+}
+
+// What stands from a place on, nothing if the place is past the end.
+pub fn behind(words: &[u8], at: usize) -> &[u8]
+    ensures { λ r. ⌜ length (now r) ≤ length (now (words .entry)) - at ⌝ }
+{
+    if words.len() <= at {
+        return &words[words.len()..];
+    }
+    &words[at..]
+}
+
+// The place of the first such byte, or the end.
+pub fn find(text: &[u8], wanted: u8) -> usize
+    ensures { λ r. ⌜ r ≤ length (now (text .entry)) ⌝ }
+{
+    let mut i = 0;
+    while i < text.len() {
+        if text[i] == wanted {
+            return i;
+        }
+        i += 1;
+    }
+    i
+}
+
+// What stands from a place on before the next such byte.
+pub fn part_at(text: &[u8], at: usize, end: u8) -> &[u8]
+    ensures { λ r. ⌜ length (now r) ≤ length (now (text .entry)) - at ⌝ }
+{
+    let rest = behind(text, at);
+    let n = find(rest, end);
+    &rest[..n]
+}
+
+// The line from a place on, without its end.
+pub fn line_at(text: &[u8], at: usize) -> &[u8]
+    ensures { λ r. ⌜ length (now r) ≤ length (now (text .entry)) - at ⌝ }
+{
+    part_at(text, at, b'\n')
+}
+
+// Whether every byte is the value.
+pub fn every(bytes: &[u8], value: u8) -> bool {
+    for i in 0..bytes.len() {
+        if bytes[i] != value {
+            return false;
+        }
+    }
+    true
+}

@@ -1,0 +1,67 @@
+// Refusals in words.
+use byte_parts::line_at;
+use refusal::Refusal;
+use report::Line;
+
+// Where the line after the one at a place begins; past the end, the place itself.
+fn next_line(text: &[u8], at: usize) -> usize {
+    let length = line_at(text, at).len();
+    if text.len() <= at {
+        return at;
+    }
+    at + length + 1
+}
+
+// The line of a text that has a number, counted from 1; nothing where the text has fewer.
+fn line_of(text: &[u8], number: usize) -> &[u8] {
+    let mut at = 0;
+    let mut left = number;
+    while 1 < left {
+        at = next_line(text, at);
+        left -= 1;
+    }
+    line_at(text, at)
+}
+
+// A line with the cause of a refusal after it, by its number: the words of document 01's table, a line for each number.
+fn cause(line: Line, number: usize) -> Line {
+    line.text(line_of(
+        b"the size is not a multiple of 4096 from 4096 to 262144
+the password is not 256 bytes
+the firmware text is malformed
+a data byte is outside the region
+the address of a data byte was given before
+no script: its mark or version is wrong
+the script ends inside a packet
+a packet is refused over zeros
+a packet is refused over 0xFF only
+the region is not the image's picture at a start
+bytes follow after the firmware started
+the script ends and the firmware has not started
+the output is too short
+the entry address is not below the size
+the request is unknown
+the request is for another card
+the record breaks its rule, or is not 64 bytes
+text or script is too long
+",
+        number,
+    ))
+}
+
+// Says that something is refused: the number, and the cause in words.
+pub fn refused(refusal: Refusal) {
+    let number = refusal::number(refusal) as usize;
+    let line = Line::new().text(b"refused ").decimal(number).text(b": ");
+    cause(line, number).print();
+}
+
+// A line that begins with a place, in decimal and hex.
+pub fn place(at: usize) -> Line {
+    Line::new()
+        .text(b"place ")
+        .decimal(at)
+        .text(b" (")
+        .hex(at)
+        .text(b")")
+}
