@@ -41,7 +41,10 @@ fn show_text(text: &Text) -> io::Result<()> {
     let region = format!("{}/zlatopysk_bench.bin", folder());
     fs::write(&file, &text.bytes)?;
     let bytes = text.bytes.len();
-    let ours = time_program(&format!("{CARDTOOL} picture {file} {region} --force"), bytes)?;
+    let ours = time_program(
+        &format!("{CARDTOOL} picture {file} {region} --force"),
+        bytes,
+    )?;
     // No -fill: over scattered segments that filter alone takes a minute.
     let theirs = format!("srec_cat -disable-sequence-warning {file} -ti_txt -o {region} -binary");
     let theirs = time_program(&theirs, bytes)?;
@@ -61,7 +64,9 @@ pub fn show(texts: &[&Text]) {
         return;
     }
     if !Path::new(CARDTOOL).exists() {
-        println!("\n{CARDTOOL} is not there, so it is not timed beside srec_cat: ./cardtool builds it");
+        println!(
+            "\n{CARDTOOL} is not there, so it is not timed beside srec_cat: ./cardtool builds it"
+        );
         return;
     }
     println!("\nprograms, ns per byte, best and median of {STARTS}");
