@@ -116,8 +116,12 @@ pub fn save(to: Name, bytes: &[u8], first: Name, second: Name, replacing: Replac
     let mut word = io::buffer();
     let n = arguments::put_name(to, &mut word);
     let path = front(&word, n);
+    if n == 0 {
+        complain(b"an empty name", b": no file has it");
+        return false;
+    }
     if !standing::is_free(path, first, second, replacing) {
         return false;
     }
-    new::put_in_place(path, bytes)
+    new::put_in_place(path, bytes, first, second, replacing)
 }

@@ -1,7 +1,10 @@
 // A new file in the place of another: it is made in the folder of that place, and takes its name once its bytes are on
 // their device. So the old file stands until the new one is whole.
+use crate::Replacing;
 use crate::complain;
 use crate::failed;
+use crate::standing::is_free;
+use arguments::Name;
 use byte_parts::front;
 use byte_parts::front_mut;
 use report::Line;
@@ -93,9 +96,9 @@ fn fill(descriptor: i32, bytes: &[u8]) -> bool {
     whole
 }
 
-// Makes a new file with bytes, by a name that ends in six X, which are replaced, and gives it the name of a path; or
-// leaves none. The answer is whether it was made.
-fn make(bytes: &[u8], name: &mut [u8], path: &[u8]) -> bool {
+// Makes a new file with bytes, by a name that ends in six X, which are replaced; or leaves none. The answer is whether it
+// was made.
+fn make(bytes: &[u8], name: &mut [u8]) -> bool {
     let descriptor = os::create_temp(name);
     if descriptor < 0 {
         return false;
@@ -104,27 +107,65 @@ fn make(bytes: &[u8], name: &mut [u8], path: &[u8]) -> bool {
         os::unlink(name);
         return false;
     }
-    if os::rename(name, path) != 0 {
+    true
+}
+
+// Gives a new file the name of a place, or removes it. The place is looked at again, as writing takes its time, in which
+// another file may have come there. The answer is whether it has the name; where not, that is said.
+fn take_place(name: &[u8], place: &[u8], first: Name, second: Name, replacing: Replacing) -> bool {
+    if !is_free(place, first, second, replacing) {
         os::unlink(name);
+        return false;
+    }
+    if os::rename(name, place) != 0 {
+        os::unlink(name);
+        failed(place);
         return false;
     }
     true
 }
 
-// Puts bytes into the file at a path, or where its link leads, whole or not at all. The answer is whether it did; where
-// not, that is said.
-pub fn put_in_place(path: &[u8], bytes: &[u8]) -> bool {
-    let mut place = io::buffer();
-    let n = resolve(path, &mut place);
-    let mut name = io::buffer();
-    let m = name_beside(front(&place, n), &mut name);
-    if m == 0 {
+// Puts bytes into the file at a place that is no link, whole or not at all. The answer is whether it did; where not, that
+// is said.
+fn put_at_place(
+    place: &[u8],
+    bytes: &[u8],
+    first: Name,
+    second: Name,
+    replacing: Replacing,
+) -> bool {
+    let mut room = io::buffer();
+    let n = name_beside(place, &mut room);
+    if n == 0 {
+        complain(place, b": the name is too long");
+        return false;
+    }
+    let name = front_mut(&mut room, n);
+    if !make(bytes, name) {
+        failed(place);
+        return false;
+    }
+    take_place(name, place, first, second, replacing)
+}
+
+// Puts bytes into the file at a path, or where its link leads, which is looked at by its own name. The answer is whether
+// it did; where not, that is said.
+pub fn put_in_place(
+    path: &[u8],
+    bytes: &[u8],
+    first: Name,
+    second: Name,
+    replacing: Replacing,
+) -> bool {
+    let mut room = io::buffer();
+    let n = resolve(path, &mut room);
+    if n == 0 {
         complain(path, b": the name is too long");
         return false;
     }
-    if !make(bytes, front_mut(&mut name, m), front(&place, n)) {
-        failed(path);
+    let place = front(&room, n);
+    if !is_free(place, first, second, replacing) {
         return false;
     }
-    true
+    put_at_place(place, bytes, first, second, replacing)
 }
