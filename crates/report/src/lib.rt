@@ -119,16 +119,16 @@ impl Line {
     }
 }
 
-// Whether a byte is a control character where no letter of UTF-8 goes on with it.
-fn is_late_control(b: u8) -> bool {
+// Whether a byte makes a control character together with 0xc2 before it.
+fn ends_control(b: u8) -> bool {
     match b {
         0x80..=0x9F => true,
         _ => false,
     }
 }
 
-// Whether a byte can end a control character of two bytes, or be one by itself.
-fn is_alone(before: u8) -> bool {
+// Whether a byte from 0x80 to 0x9f is a control character after this one, and no later byte of a letter.
+fn begins_no_letter(before: u8) -> bool {
     match before {
         0x00..=0x7F | 0xC2 => true,
         _ => false,
@@ -136,12 +136,12 @@ fn is_alone(before: u8) -> bool {
 }
 
 // A byte of a name as it may be sent to a terminal, by its neighbours: a question mark for a control character. In UTF-8
-// those above 0x7f are 0xc2 and a byte from 0x80 to 0x9f, which goes on with a letter after any other byte.
+// those above 0x7f are 0xc2 and a byte from 0x80 to 0x9f.
 pub fn shown(before: u8, b: u8, after: u8) -> u8 {
     match b {
         0x00..=0x1F | 0x7F => b'?',
-        0x80..=0x9F => if is_alone(before) { b'?' } else { b },
-        0xC2 => if is_late_control(after) { b'?' } else { b },
+        0x80..=0x9F => if begins_no_letter(before) { b'?' } else { b },
+        0xC2 => if ends_control(after) { b'?' } else { b },
         _ => b,
     }
 }
