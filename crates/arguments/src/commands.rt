@@ -1,4 +1,5 @@
 // The commands and the options, by their names, and which command takes what.
+use byte_parts::line_of;
 use region::same;
 
 pub enum Command {
@@ -20,136 +21,109 @@ pub enum Option {
     Size,
     Expect,
     Force,
+    Help,
+    // What follows are files.
+    End,
     Unknown,
 }
 
-pub fn is_help(word: &[u8]) -> bool {
-    if same(word, b"-h") {
-        return true;
+// The number of the line that a word is in a list of so many, from 0 on; as many as there are where it is none.
+fn number_in(list: &[u8], count: usize, word: &[u8]) -> usize {
+    for i in 0..count {
+        if same(line_of(list, i), word) {
+            return i;
+        }
     }
-    same(word, b"--help")
-}
-
-// The command of a word that asks about the program itself.
-fn asking(word: &[u8]) -> Command {
-    if is_help(word) {
-        return Command::Help;
-    }
-    if same(word, b"--version") {
-        return Command::Version;
-    }
-    Command::Wrong
+    count
 }
 
 pub fn command_of(word: &[u8]) -> Command {
-    if same(word, b"plan") {
-        return Command::Plan;
+    let number = number_in(
+        b"plan
+check
+show
+image
+picture
+record
+--version
+--help
+-h
+",
+        9,
+        word,
+    );
+    match number {
+        0 => Command::Plan,
+        1 => Command::Check,
+        2 => Command::Show,
+        3 => Command::Image,
+        4 => Command::Picture,
+        5 => Command::Record,
+        6 => Command::Version,
+        7 | 8 => Command::Help,
+        _ => Command::Wrong,
     }
-    if same(word, b"check") {
-        return Command::Check;
-    }
-    if same(word, b"show") {
-        return Command::Show;
-    }
-    if same(word, b"image") {
-        return Command::Image;
-    }
-    if same(word, b"picture") {
-        return Command::Picture;
-    }
-    if same(word, b"record") {
-        return Command::Record;
-    }
-    asking(word)
 }
 
 pub fn option_of(word: &[u8]) -> Option {
-    if same(word, b"--password") {
-        return Option::Password;
-    }
-    if same(word, b"--entry") {
-        return Option::Entry;
-    }
-    if same(word, b"--size") {
-        return Option::Size;
-    }
-    if same(word, b"--expect") {
-        return Option::Expect;
-    }
-    if same(word, b"--force") {
-        return Option::Force;
-    }
-    Option::Unknown
-}
-
-// The options of planning: all but the expected checksum.
-fn planning(option: Option) -> bool {
-    match option {
-        Option::Password => true,
-        Option::Entry => true,
-        Option::Size => true,
-        Option::Expect => false,
-        Option::Force => true,
-        Option::Unknown => false,
-    }
-}
-
-// The options of checking, which writes no file.
-fn checking(option: Option) -> bool {
-    match option {
-        Option::Password => true,
-        Option::Entry => false,
-        Option::Size => true,
-        Option::Expect => true,
-        Option::Force => false,
-        Option::Unknown => false,
-    }
-}
-
-// The option of an image: its region's size.
-fn sizing(option: Option) -> bool {
-    match option {
-        Option::Password => false,
-        Option::Entry => false,
-        Option::Size => true,
-        Option::Expect => false,
-        Option::Force => false,
-        Option::Unknown => false,
-    }
-}
-
-// The options of a picture: its region's size, and whether a file that stands is replaced.
-fn picturing(option: Option) -> bool {
-    match option {
-        Option::Password => false,
-        Option::Entry => false,
-        Option::Size => true,
-        Option::Expect => false,
-        Option::Force => true,
-        Option::Unknown => false,
+    let number = number_in(
+        b"--password
+--entry
+--size
+--expect
+--force
+--
+--help
+-h
+",
+        8,
+        word,
+    );
+    match number {
+        0 => Option::Password,
+        1 => Option::Entry,
+        2 => Option::Size,
+        3 => Option::Expect,
+        4 => Option::Force,
+        5 => Option::End,
+        6 | 7 => Option::Help,
+        _ => Option::Unknown,
     }
 }
 
 // Whether a command takes an option.
 pub fn takes(command: Command, option: Option) -> bool {
-    match command {
-        Command::Plan => planning(option),
-        Command::Check => checking(option),
-        Command::Image => sizing(option),
-        Command::Picture => picturing(option),
-        _ => false,
+    match option {
+        Option::Help | Option::End => true,
+        Option::Unknown => false,
+        Option::Password => match command {
+            Command::Plan | Command::Check => true,
+            _ => false,
+        },
+        Option::Entry => match command {
+            Command::Plan => true,
+            _ => false,
+        },
+        Option::Size => match command {
+            Command::Plan | Command::Check | Command::Image | Command::Picture => true,
+            _ => false,
+        },
+        Option::Expect => match command {
+            Command::Check => true,
+            _ => false,
+        },
+        Option::Force => match command {
+            Command::Plan | Command::Picture => true,
+            _ => false,
+        },
     }
 }
 
 // How many files a command wants.
 pub fn wanted(command: Command) -> usize {
     match command {
-        Command::Plan => 2,
-        Command::Check => 2,
-        Command::Show => 1,
-        Command::Image => 1,
-        Command::Picture => 2,
-        Command::Record => 1,
+        Command::Plan | Command::Check | Command::Picture => 2,
+        Command::Show | Command::Image | Command::Record => 1,
         _ => 0,
     }
 }
@@ -157,9 +131,7 @@ pub fn wanted(command: Command) -> usize {
 // Whether nothing after a command matters.
 pub fn is_alone(command: Command) -> bool {
     match command {
-        Command::Help => true,
-        Command::Version => true,
-        Command::Wrong => true,
+        Command::Help | Command::Version | Command::Wrong => true,
         _ => false,
     }
 }

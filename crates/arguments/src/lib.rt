@@ -2,13 +2,13 @@
 // argument or follow an equals sign. What is wrong with them is said in a line on standard error.
 mod commands;
 mod numbers;
+pub mod usage;
 
 use byte_parts::behind;
 use byte_parts::find;
 use byte_parts::front;
 pub use commands::Command;
 use commands::Option;
-use region::same;
 use report::Line;
 
 // A name among the arguments: the argument, 0 for none, and the place in it where the name begins.
@@ -176,16 +176,17 @@ fn with_value(option: Option, word: &[u8], value: Name, options: Options) -> Opt
         Option::Entry => with_entry(changed, part),
         Option::Size => with_size(changed, part),
         Option::Expect => with_expect(changed, part),
-        Option::Force => refuse(changed, b"the option has no value: ", word),
-        Option::Unknown => changed,
+        _ => refuse(changed, b"the option has no value: ", word),
     }
 }
 
-// Options with one that is named by an argument, and whose value is the next one.
+// Options with one that is named by an argument; where it wants a value, that is the next one.
 fn with_named(option: Option, argument: usize, options: Options) -> Options {
     let mut changed = options;
     match option {
         Option::Force => changed.force = true,
+        Option::Help => changed.help = true,
+        Option::End => changed.ended = true,
         _ => changed.wanting = argument,
     }
     changed
@@ -194,9 +195,10 @@ fn with_named(option: Option, argument: usize, options: Options) -> Options {
 // Options with one that an argument names, its value behind an equals sign or not.
 fn with_option(command: Command, word: &[u8], argument: usize, options: Options) -> Options {
     let equals = find(word, b'=');
-    let option = commands::option_of(front(word, equals));
+    let name = front(word, equals);
+    let option = commands::option_of(name);
     if !commands::takes(command, option) {
-        return refuse(options, b"the command has no option ", front(word, equals));
+        return refuse(options, b"the command has no option ", name);
     }
     if equals < word.len() {
         let value = Name {
@@ -222,20 +224,6 @@ fn with_file(argument: usize, options: Options) -> Options {
         changed.files = options.files + 1;
     }
     changed
-}
-
-// Options with a word that begins as options do.
-fn with_dashes(command: Command, word: &[u8], argument: usize, options: Options) -> Options {
-    let mut changed = options;
-    if same(word, b"--") {
-        changed.ended = true;
-        return changed;
-    }
-    if commands::is_help(word) {
-        changed.help = true;
-        return changed;
-    }
-    with_option(command, word, argument, options)
 }
 
 // The option that an argument names.
@@ -268,7 +256,7 @@ fn with_argument(command: Command, argument: usize, options: Options) -> Options
         return with_value(option_at(options.wanting), &word[..n], value, options);
     }
     if is_option(&word[..n], options) {
-        return with_dashes(command, &word[..n], argument, options);
+        return with_option(command, &word[..n], argument, options);
     }
     with_file(argument, options)
 }
@@ -286,13 +274,14 @@ fn options_of(command: Command, count: usize) -> Options {
 
 // Options as they are judged when all arguments are read.
 fn judged(command: Command, options: Options) -> Options {
+    let wanted = commands::wanted(command);
     if options.wanting != 0 {
         return refuse(options, b"the last option wants a value", b"");
     }
-    if options.files < commands::wanted(command) {
+    if options.files < wanted {
         return refuse(options, b"the command wants another file", b"");
     }
-    if commands::wanted(command) < options.files {
+    if wanted < options.files {
         return refuse(options, b"the command wants fewer files", b"");
     }
     options

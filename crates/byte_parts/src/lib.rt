@@ -61,6 +61,31 @@ pub fn line_at(text: &[u8], at: usize) -> &[u8]
     part_at(text, at, b'\n')
 }
 
+// Where the part after the one at a place begins; past the end, the place itself.
+fn next_part(text: &[u8], at: usize, end: u8) -> usize {
+    let length = part_at(text, at, end).len();
+    if text.len() <= at {
+        return at;
+    }
+    at + length + 1
+}
+
+// The part of a text that has a number, from 0 on, each with such a byte after it; nothing where the text has fewer.
+pub fn part_of(text: &[u8], number: usize, end: u8) -> &[u8] {
+    let mut at = 0;
+    let mut left = number;
+    while 0 < left {
+        at = next_part(text, at, end);
+        left -= 1;
+    }
+    part_at(text, at, end)
+}
+
+// The line of a text that has a number, from 0 on; nothing where the text has fewer.
+pub fn line_of(text: &[u8], number: usize) -> &[u8] {
+    part_of(text, number, b'\n')
+}
+
 // Whether every byte is the value.
 pub fn every(bytes: &[u8], value: u8) -> bool {
     for i in 0..bytes.len() {

@@ -10,14 +10,6 @@ use tool_verdict::Behind;
 // A password, and one byte more.
 const ROOM: usize = 257;
 
-// The checksum that is expected: the one asked for, or the image's own.
-fn expected(options: Options, text: &[u8], region: &mut [u8]) -> u16 {
-    if options.expect < arguments::OWN {
-        return (options.expect % 65536) as u16;
-    }
-    tool_output::image_checksum(text, region)
-}
-
 // Says what came of a check.
 fn say(
     checked: Checked,
@@ -52,7 +44,7 @@ fn judge(
     let size = options.size;
     let one = front_mut(zeros, size);
     let other = front_mut(ones, size);
-    let sum = expected(options, text, one);
+    let sum = tool_output::expected_checksum(options, text, one);
     let checked = checker::check(script, text, password, sum, size, one, other);
     say(checked, sum, script, text, password, one);
 }

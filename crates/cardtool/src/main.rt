@@ -4,9 +4,9 @@
 // standard error then says, and anything else for a success. The launcher beside the README turns
 // that line into an exit status. The large rooms stand here once, and are lent.
 mod check;
-mod usage;
 
 use arguments::Command;
+use arguments::usage;
 
 fn main() {
     let request = arguments::read();
@@ -23,8 +23,6 @@ fn main() {
         Command::Image => tool_image::run(options, &mut text, &mut zeros),
         Command::Picture => tool_output::picture::run(options, &mut text, &mut zeros),
         Command::Record => tool_record::run(options),
-        Command::Help => usage::print(libc::STDOUT_FILENO),
-        Command::Version => usage::version(),
-        Command::Wrong => usage::print(libc::STDERR_FILENO),
+        _ => usage::answer(command),
     }
 }

@@ -23,6 +23,13 @@ pub enum Replacing {
     Any,
 }
 
+// What may be replaced: neither of two files that were read, and of others those of a kind.
+pub struct Rule {
+    pub first: Name,
+    pub second: Name,
+    pub replacing: Replacing,
+}
+
 // The length of a password.
 const PASSWORD: usize = 256;
 
@@ -110,9 +117,9 @@ pub fn read_password(name: Name, room: &mut [u8]) -> Reading {
     Reading::Held(PASSWORD)
 }
 
-// Puts bytes into the file of a name, whole or not at all, if it may be replaced: it is neither of two files that were
-// read, and of those that are replaced. The answer is whether it was written.
-pub fn save(to: Name, bytes: &[u8], first: Name, second: Name, replacing: Replacing) -> bool {
+// Puts bytes into the file of a name, whole or not at all, if what stands there may be replaced. The answer is whether it
+// was written.
+pub fn save(to: Name, bytes: &[u8], rule: Rule) -> bool {
     let mut word = io::buffer();
     let n = arguments::put_name(to, &mut word);
     let path = front(&word, n);
@@ -120,8 +127,8 @@ pub fn save(to: Name, bytes: &[u8], first: Name, second: Name, replacing: Replac
         complain(b"an empty name", b": no file has it");
         return false;
     }
-    if !standing::is_free(path, first, second, replacing) {
+    if !standing::is_free(path, rule) {
         return false;
     }
-    new::put_in_place(path, bytes, first, second, replacing)
+    new::put_in_place(path, bytes, rule)
 }

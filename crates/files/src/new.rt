@@ -1,10 +1,9 @@
 // A new file in the place of another: it is made in the folder of that place, and takes its name once its bytes are on
 // their device. So the old file stands until the new one is whole.
-use crate::Replacing;
+use crate::Rule;
 use crate::complain;
 use crate::failed;
 use crate::standing::is_free;
-use arguments::Name;
 use byte_parts::front;
 use byte_parts::front_mut;
 use report::Line;
@@ -112,8 +111,8 @@ fn make(bytes: &[u8], name: &mut [u8]) -> bool {
 
 // Gives a new file the name of a place, or removes it. The place is looked at again, as writing takes its time, in which
 // another file may have come there. The answer is whether it has the name; where not, that is said.
-fn take_place(name: &[u8], place: &[u8], first: Name, second: Name, replacing: Replacing) -> bool {
-    if !is_free(place, first, second, replacing) {
+fn take_place(name: &[u8], place: &[u8], rule: Rule) -> bool {
+    if !is_free(place, rule) {
         os::unlink(name);
         return false;
     }
@@ -127,13 +126,7 @@ fn take_place(name: &[u8], place: &[u8], first: Name, second: Name, replacing: R
 
 // Puts bytes into the file at a place that is no link, whole or not at all. The answer is whether it did; where not, that
 // is said.
-fn put_at_place(
-    place: &[u8],
-    bytes: &[u8],
-    first: Name,
-    second: Name,
-    replacing: Replacing,
-) -> bool {
+fn put_at_place(place: &[u8], bytes: &[u8], rule: Rule) -> bool {
     let mut room = io::buffer();
     let n = name_beside(place, &mut room);
     if n == 0 {
@@ -145,18 +138,12 @@ fn put_at_place(
         failed(place);
         return false;
     }
-    take_place(name, place, first, second, replacing)
+    take_place(name, place, rule)
 }
 
 // Puts bytes into the file at a path, or where its link leads, which is looked at by its own name. The answer is whether
 // it did; where not, that is said.
-pub fn put_in_place(
-    path: &[u8],
-    bytes: &[u8],
-    first: Name,
-    second: Name,
-    replacing: Replacing,
-) -> bool {
+pub fn put_in_place(path: &[u8], bytes: &[u8], rule: Rule) -> bool {
     let mut room = io::buffer();
     let n = resolve(path, &mut room);
     if n == 0 {
@@ -164,8 +151,8 @@ pub fn put_in_place(
         return false;
     }
     let place = front(&room, n);
-    if !is_free(place, first, second, replacing) {
+    if !is_free(place, rule) {
         return false;
     }
-    put_at_place(place, bytes, first, second, replacing)
+    put_at_place(place, bytes, rule)
 }

@@ -1,10 +1,12 @@
 // What stands where a file is to be written, and whether it may be replaced. Files are told apart by device and number,
 // whatever their names are.
 use crate::Replacing;
+use crate::Rule;
 use crate::complain;
 use crate::failed;
 use arguments::Name;
 use byte_parts::front;
+use byte_parts::line_of;
 use tool_paths::File;
 use tool_paths::Standing;
 
@@ -39,65 +41,58 @@ fn is_script(path: &[u8]) -> bool {
     region::same(&mark, b"BSX")
 }
 
-// Whether a regular file that was not read may be replaced. Where it may not, that is said.
-fn is_replaced(path: &[u8], replacing: Replacing) -> bool {
+// Why a regular file is not replaced that was not read, by the number of the reason; 0 where it is.
+fn kept(path: &[u8], replacing: Replacing) -> usize {
     match replacing {
-        Replacing::Any => true,
-        Replacing::Nothing => {
-            complain(path, b": the file stands already; --force replaces it");
-            false
-        }
-        Replacing::Scripts => {
-            if is_script(path) {
-                return true;
-            }
-            complain(
-                path,
-                b": the file stands already and is no script; --force replaces it",
-            );
-            false
-        }
+        Replacing::Any => 0,
+        Replacing::Nothing => 1,
+        Replacing::Scripts => if is_script(path) { 0 } else { 2 },
     }
 }
 
-// Whether a regular file may be replaced. Where it may not, that is said.
-fn is_regular_free(
-    path: &[u8],
-    file: File,
-    first: Name,
-    second: Name,
-    replacing: Replacing,
-) -> bool {
-    let mut read = is_named(file, first);
-    if is_named(file, second) {
-        read = true;
+// Why a regular file is not replaced, by the number of the reason; 0 where it is.
+fn regular(path: &[u8], file: File, rule: Rule) -> usize {
+    if is_named(file, rule.first) {
+        return 3;
     }
-    if read {
-        complain(
-            path,
-            b": the file is one of those read, and is not replaced",
-        );
-        return false;
+    if is_named(file, rule.second) {
+        return 3;
     }
-    is_replaced(path, replacing)
+    let replacing = rule.replacing;
+    kept(path, replacing)
+}
+
+// Why no file is written at a path, by the number of the reason; 0 where one may be.
+fn reason(path: &[u8], rule: Rule) -> usize {
+    match tool_paths::look_at(path) {
+        Standing::Missing => 0,
+        Standing::Regular(file) => regular(path, file, rule),
+        Standing::Other(_) => 4,
+        Standing::TooLong => 5,
+        Standing::Unknown => 6,
+    }
 }
 
 // Whether a file may be written at a path. Where it may not, that is said.
-pub fn is_free(path: &[u8], first: Name, second: Name, replacing: Replacing) -> bool {
-    match tool_paths::look_at(path) {
-        Standing::Missing => true,
-        Standing::Regular(file) => is_regular_free(path, file, first, second, replacing),
-        Standing::Other(_) => {
-            complain(path, b": this is no regular file, and is not replaced");
-            false
-        }
-        Standing::Unknown => {
-            failed(path);
-            false
-        }
-        Standing::TooLong => {
-            complain(path, b": the name is too long");
-            false
-        }
+pub fn is_free(path: &[u8], rule: Rule) -> bool {
+    let number = reason(path, rule);
+    if number == 6 {
+        failed(path);
+        return false;
     }
+    if number == 0 {
+        return true;
+    }
+    let why = line_of(
+        b"
+: the file stands already; --force replaces it
+: the file stands already and is no script; --force replaces it
+: the file is one of those read, and is not replaced
+: this is no regular file, and is not replaced
+: the name is too long
+",
+        number,
+    );
+    complain(path, why);
+    false
 }

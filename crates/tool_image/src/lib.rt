@@ -8,6 +8,7 @@ use report::Line;
 use text_cursor::Cursor;
 use text_cursor::Token;
 use text_image::Verdict;
+use tool_words::lines;
 use tool_words::place;
 ghost use Prim.Native.Nat.{_-_, _≤_};
 ghost use lib.ListN.{length};
@@ -166,11 +167,7 @@ fn print_map(map: &[u8]) {
 fn print(text: &[u8], size: usize, sum: u16) {
     let mut bits = [0u8; 32768];
     let map: &mut [u8] = &mut bits;
-    Line::new()
-        .text(b"image in a region of ")
-        .decimal(size)
-        .text(b" bytes")
-        .print();
+    lines::bytes(b"image in a region of ", size);
     let last = print_segments(text, map);
     Line::new()
         .text(b"bytes used ")
@@ -178,10 +175,7 @@ fn print(text: &[u8], size: usize, sum: u16) {
         .text(b" in ")
         .count(last.number, b"segment")
         .print();
-    Line::new()
-        .text(b"checksum 0x")
-        .code(sum as usize, 4)
-        .print();
+    lines::checksum(b"checksum ", sum);
     print_map(front(map, size / 8));
 }
 

@@ -3,14 +3,26 @@
 pub mod picture;
 pub mod plan;
 
+use arguments::Name;
+use arguments::Options;
 use files::Replacing;
+use files::Rule;
 
-// What may be replaced: what a command replaces by itself, or with --force any regular file.
-fn replacing(force: bool, usual: Replacing) -> Replacing {
-    if force {
-        return Replacing::Any;
+// What a command may replace that has read two files: what it replaces by itself, or with --force any regular file.
+fn rule(options: Options, second: Name, usual: Replacing) -> Rule {
+    let first = options.first;
+    if options.force {
+        return Rule {
+            first,
+            second,
+            replacing: Replacing::Any,
+        };
     }
-    usual
+    Rule {
+        first,
+        second,
+        replacing: usual,
+    }
 }
 
 // The checksum of the picture of a text, which is put into a region for it. Where the text is refused, it
@@ -18,4 +30,12 @@ fn replacing(force: bool, usual: Replacing) -> Replacing {
 pub fn image_checksum(text: &[u8], region: &mut [u8]) -> u16 {
     ti_txt::read(text, region.len(), region);
     crc::checksum(region)
+}
+
+// The checksum that a card expects: the one asked for, or that of the picture of a text.
+pub fn expected_checksum(options: Options, text: &[u8], region: &mut [u8]) -> u16 {
+    if options.expect < arguments::OWN {
+        return (options.expect % 65536) as u16;
+    }
+    image_checksum(text, region)
 }

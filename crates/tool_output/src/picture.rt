@@ -1,29 +1,22 @@
 // `picture`: the picture of a firmware text, byte for byte what the flash region is to hold, written into a file.
-use crate::replacing;
+use crate::rule;
 use arguments::Options;
 use byte_parts::front;
 use byte_parts::front_mut;
 use files::Reading;
 use files::Replacing;
-use report::Line;
 use text_image::Verdict;
+use tool_words::lines;
 use tool_words::place;
 
 // Puts a region into its file, which may not be the text, and says what it is.
 fn save(options: Options, region: &[u8]) {
-    let replaced = replacing(options.force, Replacing::Nothing);
-    let to = options.second;
-    if !files::save(to, region, options.first, arguments::nothing(), replaced) {
+    let replaced = rule(options, arguments::nothing(), Replacing::Nothing);
+    if !files::save(options.second, region, replaced) {
         return;
     }
-    Line::new()
-        .text(b"written ")
-        .count(region.len(), b"byte")
-        .print();
-    Line::new()
-        .text(b"image checksum 0x")
-        .code(crc::checksum(region) as usize, 4)
-        .print();
+    lines::bytes(b"written ", region.len());
+    lines::checksum(b"image checksum ", crc::checksum(region));
 }
 
 // Fills a region with the picture of a text and saves it, or says why the text is refused.

@@ -1,14 +1,14 @@
 // `plan`: the script of a firmware text, written into a file.
 use crate::image_checksum;
-use crate::replacing;
+use crate::rule;
 use arguments::Options;
 use byte_parts::front;
 use byte_parts::front_mut;
 use files::Reading;
 use files::Replacing;
 use planner::Planned;
-use report::Line;
 use tool_words::entry;
+use tool_words::lines;
 use tool_words::packets;
 use tool_words::place;
 
@@ -18,26 +18,16 @@ const ROOM: usize = 257;
 // Says what a script is that was written.
 fn print(options: Options, text: &[u8], script: &[u8], sum: u16) {
     let framing = packets::framing(script);
-    Line::new()
-        .text(b"planned ")
-        .count(script.len(), b"byte")
-        .print();
-    Line::new()
-        .text(b"packets ")
-        .decimal(framing.packets)
-        .print();
-    Line::new()
-        .text(b"image checksum 0x")
-        .code(sum as usize, 4)
-        .print();
+    lines::bytes(b"planned ", script.len());
+    lines::number(b"packets ", framing.packets);
+    lines::checksum(b"image checksum ", sum);
     entry::print(text, options.entry as usize);
 }
 
 // Puts a script into its file, which may not be one of those that were read, and says what it is.
 fn save(options: Options, text: &[u8], script: &[u8], sum: u16) {
-    let replaced = replacing(options.force, Replacing::Scripts);
-    let to = options.second;
-    if files::save(to, script, options.first, options.password, replaced) {
+    let replaced = rule(options, options.password, Replacing::Scripts);
+    if files::save(options.second, script, replaced) {
         print(options, text, script, sum);
     }
 }

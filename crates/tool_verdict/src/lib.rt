@@ -6,6 +6,7 @@ use refusal::Refusal;
 use report::Line;
 use tool_words::cause;
 use tool_words::entry;
+use tool_words::lines;
 use tool_words::packets;
 use tool_words::place;
 
@@ -53,11 +54,11 @@ fn in_script(script: &[u8], at: usize, packets: usize) -> Line {
 // Says what stands at the place of a refusal.
 fn located(script: &[u8], text: &[u8], refusal: Refusal, at: usize, packets: usize) {
     match refusal {
-        Refusal::PacketCut => in_script(script, at, packets).print(),
-        Refusal::PictureDiffers => in_script(script, at, packets).print(),
-        Refusal::RefusedOverZeros => in_script(script, at, packets).print(),
-        Refusal::RefusedOverOnes => in_script(script, at, packets).print(),
-        Refusal::BytesAfterStart => in_script(script, at, packets).print(),
+        Refusal::PacketCut
+        | Refusal::RefusedOverZeros
+        | Refusal::RefusedOverOnes
+        | Refusal::PictureDiffers
+        | Refusal::BytesAfterStart => in_script(script, at, packets).print(),
         Refusal::NotStarted => cause::place(at).text(b": the end of the script").print(),
         _ => place::located(text, refusal, at),
     }
@@ -78,14 +79,8 @@ fn explained(refusal: Refusal, packet: &[u8], password: &[u8], behind: Behind, r
 // Says that a script passes.
 pub fn passed(script: &[u8], text: &[u8], behind: Behind) {
     Line::new().text(b"pass").print();
-    Line::new()
-        .text(b"packets ")
-        .decimal(behind.packets)
-        .print();
-    Line::new()
-        .text(b"expected checksum 0x")
-        .code(behind.expected as usize, 4)
-        .print();
+    lines::number(b"packets ", behind.packets);
+    lines::checksum(b"expected checksum ", behind.expected);
     entry::print(text, packets::last_address(script));
 }
 
@@ -104,8 +99,5 @@ pub fn refused(
     located(script, text, refusal, at, behind.packets);
     let packet = packets::packet_at(script, at);
     explained(refusal, packet, password, behind, region);
-    Line::new()
-        .text(b"packets that succeeded ")
-        .decimal(behind.packets)
-        .print();
+    lines::number(b"packets that succeeded ", behind.packets);
 }

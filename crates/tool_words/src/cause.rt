@@ -1,32 +1,14 @@
 // Refusals in words.
-use byte_parts::line_at;
+use byte_parts::line_of;
 use refusal::Refusal;
 use report::Line;
 
-// Where the line after the one at a place begins; past the end, the place itself.
-fn next_line(text: &[u8], at: usize) -> usize {
-    let length = line_at(text, at).len();
-    if text.len() <= at {
-        return at;
-    }
-    at + length + 1
-}
-
-// The line of a text that has a number, counted from 1; nothing where the text has fewer.
-fn line_of(text: &[u8], number: usize) -> &[u8] {
-    let mut at = 0;
-    let mut left = number;
-    while 1 < left {
-        at = next_line(text, at);
-        left -= 1;
-    }
-    line_at(text, at)
-}
-
-// A line with the cause of a refusal after it, by its number: the words of document 01's table, a line for each number.
+// A line with the cause of a refusal after it, by its number: the words of document 01's table, a line for each number
+// from 1 on.
 fn cause(line: Line, number: usize) -> Line {
     line.text(line_of(
-        b"the size is not a multiple of 4096 from 4096 to 262144
+        b"no refusal
+the size is not a multiple of 4096 from 4096 to 262144
 the password is not 256 bytes
 the firmware text is malformed
 a data byte is outside the region

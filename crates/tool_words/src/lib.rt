@@ -2,5 +2,6 @@
 // script and its entry address. It judges nothing by itself.
 pub mod cause;
 pub mod entry;
+pub mod lines;
 pub mod packets;
 pub mod place;

@@ -1,4 +1,8 @@
 // The packets of a script, in words.
+use byte_parts::behind;
+use byte_parts::front;
+use byte_parts::line_of;
+use little_endian::byte_at;
 use packet::Command;
 use report::Line;
 ghost use Prim.Native.Nat.{_-_, _≤_};
@@ -19,8 +23,8 @@ pub struct Framed {
 pub fn packet_at(script: &[u8], at: usize) -> &[u8]
     ensures { λ r. ⌜ length (now r) ≤ length (now (script .entry)) - at ⌝ }
 {
-    let rest = byte_parts::behind(script, at);
-    byte_parts::front(rest, script::front(rest))
+    let rest = behind(script, at);
+    front(rest, script::front(rest))
 }
 
 // The framing of what stands behind a script's head.
@@ -46,17 +50,34 @@ pub fn last_address(script: &[u8]) -> usize {
     packet::address(packet::core(packet_at(script, framing.last)))
 }
 
+// The words of a list for a code: each of its lines is a code and words, of so many. Nothing where it has none.
+fn words_for(code: u8, list: &[u8], count: usize) -> &[u8] {
+    for i in 0..count {
+        let entry = line_of(list, i);
+        if byte_at(entry, 0) == code {
+            return behind(entry, 1);
+        }
+    }
+    front(list, 0)
+}
+
 // A line with the code of a command behind it, and its name.
 fn coded(line: Line, code: u8) -> Line {
-    let written = line.code(code as usize, 2);
-    match code {
-        0x21 => written.text(b" password"),
-        0x15 => written.text(b" erase"),
-        0x20 => written.text(b" write"),
-        0x26 => written.text(b" range checksum"),
-        0x27 => written.text(b" start"),
-        _ => written.text(b" unknown"),
+    let name = words_for(
+        code,
+        b"\x21 password
+\x15 erase
+\x20 write
+\x26 range checksum
+\x27 start
+",
+        5,
+    );
+    let written = line.code(code as usize, 2).text(name);
+    if name.len() == 0 {
+        return written.text(b" unknown");
     }
+    written
 }
 
 // A line with a code behind it whose core is no row of document 01's table of commands.
@@ -71,7 +92,7 @@ fn without_row(line: Line, code: u8) -> Line {
 // A line with the command of a packet behind it.
 pub fn command(line: Line, packet: &[u8]) -> Line {
     let core = packet::core(packet);
-    let code = little_endian::byte_at(core, 0);
+    let code = byte_at(core, 0);
     if core.len() == 0 {
         return line.text(b"none");
     }
@@ -86,41 +107,44 @@ fn cut(line: Line, packet: &[u8]) -> Line {
     if packet.len() < 4 {
         return line.text(b"not there, cut");
     }
-    coded(line, little_endian::byte_at(packet, 3)).text(b", cut")
+    coded(line, byte_at(packet, 3)).text(b", cut")
 }
 
 // A line with the command of the packet at an offset of a script behind it.
 pub fn command_at(line: Line, script: &[u8], at: usize) -> Line {
     let packet = packet_at(script, at);
     if packet.len() == 0 {
-        return cut(line, byte_parts::behind(script, at));
+        return cut(line, behind(script, at));
     }
     command(line, packet)
 }
 
 // A line with the acknowledgement of a packet behind it, and what it says.
 pub fn acknowledgement(line: Line, code: u8) -> Line {
-    let written = line.code(code as usize, 2);
-    match code {
-        0x00 => written,
-        0x51 => written.text(b" does not begin with 80"),
-        0x52 => written.text(b" checksum wrong"),
-        0x53 => written.text(b" core length 0"),
-        0x54 => written.text(b" core length above 261"),
-        0x55 => written.text(b" length wrong"),
-        _ => written,
-    }
+    let words = words_for(
+        code,
+        b"\x51 does not begin with 80
+\x52 checksum wrong
+\x53 core length 0
+\x54 core length above 261
+\x55 length wrong
+",
+        5,
+    );
+    line.code(code as usize, 2).text(words)
 }
 
 // A line with a message of the loader behind it, and what it says.
 pub fn message(line: Line, code: u8) -> Line {
-    let written = line.code(code as usize, 2);
-    match code {
-        0x00 => written.text(b" done"),
-        0x01 => written.text(b" outside the region, not writable, or not to be started"),
-        0x04 => written.text(b" locked"),
-        0x05 => written.text(b" wrong password"),
-        0x07 => written.text(b" unknown command or wrong core length"),
-        _ => written,
-    }
+    let words = words_for(
+        code,
+        b"\x00 done
+\x01 outside the region, not writable, or not to be started
+\x04 locked
+\x05 wrong password
+\x07 unknown command or wrong core length
+",
+        5,
+    );
+    line.code(code as usize, 2).text(words)
 }

@@ -78,9 +78,10 @@ fn in_text(text: &[u8], place: usize) {
 // Says what stands at the place of a refusal, for those that a text gets and those without a place.
 pub fn located(text: &[u8], refusal: Refusal, at: usize) {
     match refusal {
-        Refusal::TextMalformed => in_text(text, at),
-        Refusal::AddressOutside => in_text(text, at),
-        Refusal::AddressRepeated => in_text(text, at),
+        Refusal::TextMalformed | Refusal::AddressOutside | Refusal::AddressRepeated => in_text(
+            text,
+            at,
+        ),
         _ => cause::place(at).print(),
     }
 }

@@ -1,12 +1,10 @@
 // How the program is used, and its version.
-
-// Prints the version.
-pub fn version() {
-    io::write_all(libc::STDOUT_FILENO, b"cardtool 0.2.0\n");
-}
+use crate::Command;
+use libc::STDERR_FILENO;
+use libc::STDOUT_FILENO;
 
 // Writes the usage.
-pub fn print(to: i32) {
+fn print(to: i32) {
     io::write_all(
         to,
         b"usage: cardtool plan FIRMWARE.txt SCRIPT.bsx [--password FILE] [--entry HEX] [--size BYTES] [--force]
@@ -36,4 +34,16 @@ An option's value may follow an equals sign: --size=4096.
 Exit status: 0 pass or success, 1 refused, 2 wrong usage, or a file that cannot be read or written.
 ",
     );
+}
+
+// Answers a command about the program itself: the usage or the version, or the usage where no command was given.
+pub fn answer(command: Command) {
+    match command {
+        Command::Version => {
+            io::write_all(STDOUT_FILENO, b"cardtool 0.2.0\n");
+        }
+        Command::Help => print(STDOUT_FILENO),
+        Command::Wrong => print(STDERR_FILENO),
+        _ => {}
+    }
 }
