@@ -27,14 +27,15 @@ pub enum Option {
     Unknown,
 }
 
-// The number of the line that a word is in a list of so many, from 0 on; as many as there are where it is none.
-fn number_in(list: &[u8], count: usize, word: &[u8]) -> usize {
-    for i in 0..count {
+// The number of the line that a word is in a list, from 0 on; the length of the list, more than it has lines, where it
+// is none.
+fn number_in(list: &[u8], word: &[u8]) -> usize {
+    for i in 0..list.len() {
         if same(line_of(list, i), word) {
             return i;
         }
     }
-    count
+    list.len()
 }
 
 pub fn command_of(word: &[u8]) -> Command {
@@ -49,7 +50,6 @@ record
 --help
 -h
 ",
-        9,
         word,
     );
     match number {
@@ -76,7 +76,6 @@ pub fn option_of(word: &[u8]) -> Option {
 --help
 -h
 ",
-        8,
         word,
     );
     match number {

@@ -4,11 +4,9 @@ use byte_parts::front;
 use byte_parts::front_mut;
 use checker::Answer;
 use checker::Checked;
+use files::PASSWORD_ROOM;
 use files::Reading;
 use tool_verdict::Behind;
-
-// A password, and one byte more.
-const ROOM: usize = 257;
 
 // Says what came of a check.
 fn say(
@@ -51,7 +49,7 @@ fn judge(
 
 // Checks a script with the password that the options name.
 fn with_password(options: Options, script: &[u8], text: &[u8], zeros: &mut [u8], ones: &mut [u8]) {
-    let mut room = [0u8; ROOM];
+    let mut room = [0u8; PASSWORD_ROOM];
     let Reading::Held(n) = files::read_password(options.password, &mut room) else {
         return;
     };

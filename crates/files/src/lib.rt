@@ -30,8 +30,10 @@ pub struct Rule {
     pub replacing: Replacing,
 }
 
-// The length of a password.
+// The length of a password, and the room to read one into: a byte more shows that a file is too long.
 const PASSWORD: usize = 256;
+
+pub const PASSWORD_ROOM: usize = 257;
 
 // Takes the control characters out of a name.
 fn clean(name: &mut [u8]) {

@@ -10,6 +10,11 @@ use byte_parts::line_of;
 use tool_paths::File;
 use tool_paths::Standing;
 
+// Why no file is written: by the number of the reason's line in `is_free`, or one of these.
+const NONE: usize = 0;
+
+const LOOK_FAILED: usize = 6;
+
 // Whether two files are one.
 fn is_same(a: File, b: File) -> bool {
     if a.device != b.device {
@@ -41,16 +46,16 @@ fn is_script(path: &[u8]) -> bool {
     region::same(&mark, b"BSX")
 }
 
-// Why a regular file is not replaced that was not read, by the number of the reason; 0 where it is.
+// Why a regular file that was not read is not replaced.
 fn kept(path: &[u8], replacing: Replacing) -> usize {
     match replacing {
-        Replacing::Any => 0,
+        Replacing::Any => NONE,
         Replacing::Nothing => 1,
-        Replacing::Scripts => if is_script(path) { 0 } else { 2 },
+        Replacing::Scripts => if is_script(path) { NONE } else { 2 },
     }
 }
 
-// Why a regular file is not replaced, by the number of the reason; 0 where it is.
+// Why a regular file is not replaced.
 fn regular(path: &[u8], file: File, rule: Rule) -> usize {
     if is_named(file, rule.first) {
         return 3;
@@ -62,29 +67,29 @@ fn regular(path: &[u8], file: File, rule: Rule) -> usize {
     kept(path, replacing)
 }
 
-// Why no file is written at a path, by the number of the reason; 0 where one may be.
+// Why no file is written at a path.
 fn reason(path: &[u8], rule: Rule) -> usize {
     match tool_paths::look_at(path) {
-        Standing::Missing => 0,
+        Standing::Missing => NONE,
         Standing::Regular(file) => regular(path, file, rule),
         Standing::Other(_) => 4,
         Standing::TooLong => 5,
-        Standing::Unknown => 6,
+        Standing::Unknown => LOOK_FAILED,
     }
 }
 
 // Whether a file may be written at a path. Where it may not, that is said.
 pub fn is_free(path: &[u8], rule: Rule) -> bool {
     let number = reason(path, rule);
-    if number == 6 {
+    if number == NONE {
+        return true;
+    }
+    if number == LOOK_FAILED {
         failed(path);
         return false;
     }
-    if number == 0 {
-        return true;
-    }
     let why = line_of(
-        b"
+        b"no reason
 : the file stands already; --force replaces it
 : the file stands already and is no script; --force replaces it
 : the file is one of those read, and is not replaced

@@ -4,6 +4,7 @@ use crate::rule;
 use arguments::Options;
 use byte_parts::front;
 use byte_parts::front_mut;
+use files::PASSWORD_ROOM;
 use files::Reading;
 use files::Replacing;
 use planner::Planned;
@@ -11,9 +12,6 @@ use tool_words::entry;
 use tool_words::lines;
 use tool_words::packets;
 use tool_words::place;
-
-// A password, and one byte more.
-const ROOM: usize = 257;
 
 // Says what a script is that was written.
 fn print(options: Options, text: &[u8], script: &[u8], sum: u16) {
@@ -48,7 +46,7 @@ pub fn run(options: Options, text: &mut [u8], script: &mut [u8], region: &mut [u
     let Reading::Held(n) = files::read(options.first, text) else {
         return;
     };
-    let mut room = [0u8; ROOM];
+    let mut room = [0u8; PASSWORD_ROOM];
     let Reading::Held(m) = files::read_password(options.password, &mut room) else {
         return;
     };

@@ -50,9 +50,9 @@ pub fn last_address(script: &[u8]) -> usize {
     packet::address(packet::core(packet_at(script, framing.last)))
 }
 
-// The words of a list for a code: each of its lines is a code and words, of so many. Nothing where it has none.
-fn words_for(code: u8, list: &[u8], count: usize) -> &[u8] {
-    for i in 0..count {
+// The words of a list for a code: each of its lines is a code and words. Nothing where it has none.
+fn words_for(code: u8, list: &[u8]) -> &[u8] {
+    for i in 0..list.len() {
         let entry = line_of(list, i);
         if byte_at(entry, 0) == code {
             return behind(entry, 1);
@@ -71,7 +71,6 @@ fn coded(line: Line, code: u8) -> Line {
 \x26 range checksum
 \x27 start
 ",
-        5,
     );
     let written = line.code(code as usize, 2).text(name);
     if name.len() == 0 {
@@ -129,7 +128,6 @@ pub fn acknowledgement(line: Line, code: u8) -> Line {
 \x54 core length above 261
 \x55 length wrong
 ",
-        5,
     );
     line.code(code as usize, 2).text(words)
 }
@@ -144,7 +142,6 @@ pub fn message(line: Line, code: u8) -> Line {
 \x05 wrong password
 \x07 unknown command or wrong core length
 ",
-        5,
     );
     line.code(code as usize, 2).text(words)
 }

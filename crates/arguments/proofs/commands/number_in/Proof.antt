@@ -6,10 +6,10 @@ use Rattle.arguments.proofs.commands.number_in.Statement.{statement}
 use Rattle.arguments.proofs.commands.number_in.Tie as tie
 
 abbrev Inv-loop : tie.InvT-loop
-Inv-loop list count word i₀ i = Unit {0}
+Inv-loop list word i₀ i-end i = Unit {0}
 
 abbrev μ-loop : tie.MeasureT-loop
-μ-loop list count word i₀ i = count - i
+μ-loop list word i₀ i-end i = i-end - i
 
 loop-holds : tie.Need-loop-holds Inv-loop μ-loop
 loop-holds c = search needs

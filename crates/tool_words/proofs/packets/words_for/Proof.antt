@@ -6,10 +6,10 @@ use Rattle.tool_words.proofs.packets.words_for.Statement.{statement}
 use Rattle.tool_words.proofs.packets.words_for.Tie as tie
 
 abbrev Inv-loop : tie.InvT-loop
-Inv-loop code list count i₀ i = Unit {0}
+Inv-loop code list i₀ i-end i = Unit {0}
 
 abbrev μ-loop : tie.MeasureT-loop
-μ-loop code list count i₀ i = count - i
+μ-loop code list i₀ i-end i = i-end - i
 
 loop-holds : tie.Need-loop-holds Inv-loop μ-loop
 loop-holds c = search needs
