@@ -2,7 +2,6 @@
 // argument or follow an equals sign. What is wrong with them is said in a line on standard error.
 mod commands;
 mod numbers;
-pub mod usage;
 
 use byte_parts::behind;
 use byte_parts::find;

@@ -42,7 +42,7 @@ fn judge(
     let size = options.size;
     let one = front_mut(zeros, size);
     let other = front_mut(ones, size);
-    let sum = tool_output::expected_checksum(options, text, one);
+    let sum = tool_output::expected_checksum(options.expect, text, one);
     let checked = checker::check(script, text, password, sum, size, one, other);
     say(checked, sum, script, text, password, one);
 }

@@ -6,7 +6,7 @@
 mod check;
 
 use arguments::Command;
-use arguments::usage;
+use tool_words::usage;
 
 fn main() {
     let request = arguments::read();

@@ -33,9 +33,9 @@ pub fn image_checksum(text: &[u8], region: &mut [u8]) -> u16 {
 }
 
 // The checksum that a card expects: the one asked for, or that of the picture of a text.
-pub fn expected_checksum(options: Options, text: &[u8], region: &mut [u8]) -> u16 {
-    if options.expect < arguments::OWN {
-        return (options.expect % 65536) as u16;
+pub fn expected_checksum(asked: u32, text: &[u8], region: &mut [u8]) -> u16 {
+    if asked < arguments::OWN {
+        return (asked % 65536) as u16;
     }
     image_checksum(text, region)
 }

@@ -1,5 +1,5 @@
 // How the program is used, and its version.
-use crate::Command;
+use arguments::Command;
 use libc::STDERR_FILENO;
 use libc::STDOUT_FILENO;
 
