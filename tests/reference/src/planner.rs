@@ -33,7 +33,8 @@ pub fn script(segments: &[Segment], password: &[u8], entry: u32, block: usize) -
     push_packet(&mut script, &[&[packet::ERASE]]);
     for segment in segments {
         let addresses = (segment.address as u32..).step_by(block);
-        for (address, data) in addresses.zip(segment.bytes.chunks(block)) {
+        // The blocks come first: an empty segment at the last address has no address to step to.
+        for (data, address) in segment.bytes.chunks(block).zip(addresses) {
             push_packet(
                 &mut script,
                 &[&[packet::WRITE], &address.to_le_bytes(), data],
