@@ -1,5 +1,5 @@
 /* Calls each function of bindings/c/zlatopysk.h once or twice and prints what it answers, so that the header is
-   tried and not only read. tests/c compares it with tests/header.expected. */
+   tried and not only read. tests/library compares it with tests/header.expected. */
 #include <stdio.h>
 #include <string.h>
 
@@ -52,6 +52,42 @@ static void try_record(void) {
     show("read_record of 63 bytes", a);
 }
 
+/* A message cut at a place, and the region's bytes at an address then. */
+static void cut(const char *name, size_t secret, const uint8_t *message, size_t n, size_t place, size_t address) {
+    struct zlatopysk_answer a;
+    zlatopysk_cut(ZLATOPYSK_UNLOCKED, 0, version, record, SIZE, region, SIZE, password, secret, message, n, place, &a);
+    show(name, a);
+    printf("at 0x%02x:", (unsigned)address);
+    show_bytes(region + address, 4);
+}
+
+/* A restart of an unlocked card that expects a checksum. */
+static void restart(const char *name, uint16_t expected, size_t size) {
+    struct zlatopysk_restarted r;
+    zlatopysk_restart(ZLATOPYSK_UNLOCKED, expected, version, record, size, region, SIZE, &r);
+    printf("%s: refusal %u mode %u\n", name, (unsigned)r.refusal, (unsigned)r.mode);
+}
+
+/* The script's erase stands at 267 and its write of two bytes to address 16, a message of 12 bytes, behind it. */
+static void try_mains(void) {
+    struct zlatopysk_answer a;
+    const uint8_t *erase = script + 267, *write = script + 273;
+    memset(region, 0x12, SIZE);
+    cut("erase cut before it", sizeof password, erase, 6, 0, 0x0f);
+    cut("erase cut beyond its work", sizeof password, erase, 6, 2, 0x0f);
+    cut("erase cut behind its block", sizeof password, erase, 6, 1, 0x0f);
+    cut("write cut before it", sizeof password, write, 12, 0, 0x0f);
+    cut("write cut inside", sizeof password, write, 12, 1, 0x0f);
+    cut("write cut behind it", sizeof password, write, 12, 2, 0x0f);
+    cut("write cut beyond its work", sizeof password, write, 12, 3, 0x0f);
+    cut("password of 255 bytes", 255, write, 12, 3, 0x0f);
+    zlatopysk_cut(ZLATOPYSK_LOCKED, 0, version, record, SIZE + 1, region, SIZE, password, 255, write, 12, 3, &a);
+    show("cut with a bad size", a);
+    restart("restart over the expected checksum", zlatopysk_checksum(region, SIZE), SIZE);
+    restart("restart over another", (uint16_t)~zlatopysk_checksum(region, SIZE), SIZE);
+    restart("restart with a bad size", zlatopysk_checksum(region, SIZE), SIZE + 1);
+}
+
 int main(void) {
     struct zlatopysk_answer a;
     memset(password, 0xFF, sizeof password);
@@ -75,5 +111,6 @@ int main(void) {
     mode = send("erase", mode, (const uint8_t *)"\x80\x01\x00\x15\x64\xA3", 6);
     mode = send("password", mode, script + 5, 262);
     mode = send("erase", mode, script + 267, 6);
+    try_mains();
     return 0;
 }

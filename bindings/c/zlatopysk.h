@@ -1,6 +1,6 @@
-/* The public functions of document 01, in target/staticlib/libzlatopysk.a, which `rt staticlib zlatopysk` builds for
-   Linux on x86-64. Each is proved: it answers and leaves what crates/zlatopysk says, for every input, reads and
-   writes nothing but what it is lent, and returns.
+/* The public functions of documents 01 and 02, in target/staticlib/libzlatopysk.a, which `rt staticlib zlatopysk`
+   builds for Linux on x86-64. Each is proved: it answers and leaves what crates/zlatopysk says, for every input, reads
+   and writes nothing but what it is lent, and returns.
 
    Bytes are lent as a pointer and then their number. A pointer is never null, not even with the number 0. Memory that
    a function writes to (a pointer that is not const) overlaps nothing else that is lent to the same call. Bytes need no
@@ -19,8 +19,8 @@
 extern "C" {
 #endif
 
-/* An answer: the refusal's number of document 01, or 0 for none, which is no refusal's number; the refusal's place, 0
-   where document 01 names none; and a count. 24 bytes. */
+/* An answer: the refusal's number in documents 01 and 02, or 0 for none, which is no refusal's number; the refusal's
+   place, 0 where they name none; and a count. 24 bytes. */
 struct zlatopysk_answer {
     uint64_t refusal, place, count;
 };
@@ -29,6 +29,11 @@ struct zlatopysk_answer {
    success, else 0; and the card's mode behind the call. 32 bytes. */
 struct zlatopysk_called {
     uint64_t refusal, count, success, mode;
+};
+
+/* A restart's answer: the refusal's number, or 0 for none; and the card's mode then. 16 bytes. */
+struct zlatopysk_restarted {
+    uint64_t refusal, mode;
 };
 
 /* The modes of a card. Any other number counts as locked. */
@@ -130,6 +135,21 @@ void zlatopysk_call(uint8_t mode, uint16_t expected, const uint8_t version[3], c
                     size_t size, uint8_t *region, size_t region_n, const uint8_t *password, size_t password_n,
                     const uint8_t *message, size_t message_n, uint8_t *reply, size_t reply_n,
                     struct zlatopysk_called *called);
+
+/* A message to a card that loses its mains at a place of the message's work: the region is left with a write's first
+   `place` new bytes or an erase's first `place` blocks of 4,096 bytes, and else as it was. Any other message, and one
+   that the card would refuse, is cut at place 0 alone. Of the state the cut changes the region alone; the restart
+   settles the mode. Place and count are 0. */
+void zlatopysk_cut(uint8_t mode, uint16_t expected, const uint8_t version[3], const uint8_t record[ZLATOPYSK_RECORD],
+                   size_t size, uint8_t *region, size_t region_n, const uint8_t *password, size_t password_n,
+                   const uint8_t *message, size_t message_n, size_t place, struct zlatopysk_answer *answer);
+
+/* The mains come back: the card comes up in application if the region's checksum is the one that it expects, else
+   locked. Of the state the restart changes the mode alone; a refused one answers the mode as it was, 1 (locked) for
+   a number that names none. */
+void zlatopysk_restart(uint8_t mode, uint16_t expected, const uint8_t version[3],
+                       const uint8_t record[ZLATOPYSK_RECORD], size_t size, const uint8_t *region, size_t region_n,
+                       struct zlatopysk_restarted *restarted);
 
 /* Takes the values of a card's sensor record of 64 bytes apart. Place and count are 0. */
 void zlatopysk_read_record(const uint8_t *bytes, size_t bytes_n, uint8_t record[ZLATOPYSK_RECORD],

@@ -1,4 +1,4 @@
-//! Safe calls of the proved functions in `libzlatopysk.a`, in Rust's terms: document 01's answers as values, and lent
+//! Safe calls of the proved functions in `libzlatopysk.a`, in Rust's terms: the papers' answers as values, and lent
 //! memory as slices. Every function takes any input, keeps no state, and changes nothing where it refuses, if its
 //! comment does not say otherwise. What each answers and leaves is proved; what this crate does is to pass it on.
 
@@ -70,6 +70,33 @@ mod library {
             called: *mut [u64; 4],
         );
 
+        pub fn zlatopysk_cut(
+            mode: u8,
+            expected: u16,
+            version: *const [u8; 3],
+            record: *const [u8; LENGTH],
+            size: usize,
+            region: *mut u8,
+            region_n: usize,
+            password: *const u8,
+            password_n: usize,
+            message: *const u8,
+            message_n: usize,
+            place: usize,
+            answer: *mut [u64; 3],
+        );
+
+        pub fn zlatopysk_restart(
+            mode: u8,
+            expected: u16,
+            version: *const [u8; 3],
+            record: *const [u8; LENGTH],
+            size: usize,
+            region: *const u8,
+            region_n: usize,
+            restarted: *mut [u64; 2],
+        );
+
         pub fn zlatopysk_read_record(
             bytes: *const u8,
             n: usize,
@@ -88,7 +115,7 @@ mod library {
     }
 }
 
-/// A refusal of document 01: its number, and its place (0 where the paper names none).
+/// A refusal of documents 01 and 02: its number, and its place (0 where the papers name none).
 #[derive(Clone, Copy, Debug, PartialEq, Eq)]
 pub struct Refused {
     pub number: u8,
@@ -280,6 +307,65 @@ pub fn call(
         count,
         success: success != 0,
     })
+}
+
+/// A message to a card that loses its mains at a place of the message's work: the region is left with a write's first
+/// `place` new bytes or an erase's first `place` blocks of 4,096 bytes, and else as it was. The restart settles the
+/// mode.
+pub fn cut(
+    card: &Card,
+    size: usize,
+    region: &mut [u8],
+    password: &[u8],
+    message: &[u8],
+    place: usize,
+) -> Result<(), Refused> {
+    let values = record::bytes(&card.record);
+    let mut answer = [0; 3];
+    // SAFETY: each pointer and length are those of a slice or an array of the length that the library expects;
+    // `region` and `answer` are lent to this call alone.
+    unsafe {
+        library::zlatopysk_cut(
+            card.mode.number(),
+            card.expected,
+            &card.version,
+            &values,
+            size,
+            region.as_mut_ptr(),
+            region.len(),
+            password.as_ptr(),
+            password.len(),
+            message.as_ptr(),
+            message.len(),
+            place,
+            &mut answer,
+        );
+    }
+    answered(answer).map(|_| ())
+}
+
+/// The mains come back: the card comes up in application if the region's checksum is the expected one, else locked. No
+/// other part of the state changes.
+pub fn restart(card: &mut Card, size: usize, region: &[u8]) -> Result<(), Refused> {
+    let values = record::bytes(&card.record);
+    let mut restarted = [0; 2];
+    // SAFETY: each pointer and length are those of a slice or an array of the length that the library expects;
+    // `restarted` is lent to this call alone.
+    unsafe {
+        library::zlatopysk_restart(
+            card.mode.number(),
+            card.expected,
+            &card.version,
+            &values,
+            size,
+            region.as_ptr(),
+            region.len(),
+            &mut restarted,
+        );
+    }
+    let [refusal, mode] = restarted;
+    card.mode = Mode::of(mode);
+    answered([refusal, 0, 0]).map(|_| ())
 }
 
 /// The values of a card's sensor record in 64 bytes.

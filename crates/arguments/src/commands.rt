@@ -5,6 +5,7 @@ use region::same;
 pub enum Command {
     Plan,
     Check,
+    Cuts,
     Show,
     Image,
     Picture,
@@ -20,6 +21,7 @@ pub enum Option {
     Entry,
     Size,
     Expect,
+    Region,
     Force,
     Help,
     // What follows are files.
@@ -42,6 +44,7 @@ pub fn command_of(word: &[u8]) -> Command {
     let number = number_in(
         b"plan
 check
+cuts
 show
 image
 picture
@@ -55,12 +58,13 @@ record
     match number {
         0 => Command::Plan,
         1 => Command::Check,
-        2 => Command::Show,
-        3 => Command::Image,
-        4 => Command::Picture,
-        5 => Command::Record,
-        6 => Command::Version,
-        7 | 8 => Command::Help,
+        2 => Command::Cuts,
+        3 => Command::Show,
+        4 => Command::Image,
+        5 => Command::Picture,
+        6 => Command::Record,
+        7 => Command::Version,
+        8 | 9 => Command::Help,
         _ => Command::Wrong,
     }
 }
@@ -71,6 +75,7 @@ pub fn option_of(word: &[u8]) -> Option {
 --entry
 --size
 --expect
+--region
 --force
 --
 --help
@@ -83,9 +88,10 @@ pub fn option_of(word: &[u8]) -> Option {
         1 => Option::Entry,
         2 => Option::Size,
         3 => Option::Expect,
-        4 => Option::Force,
-        5 => Option::End,
-        6 | 7 => Option::Help,
+        4 => Option::Region,
+        5 => Option::Force,
+        6 => Option::End,
+        7 | 8 => Option::Help,
         _ => Option::Unknown,
     }
 }
@@ -96,7 +102,7 @@ pub fn takes(command: Command, option: Option) -> bool {
         Option::Help | Option::End => true,
         Option::Unknown => false,
         Option::Password => match command {
-            Command::Plan | Command::Check => true,
+            Command::Plan | Command::Check | Command::Cuts => true,
             _ => false,
         },
         Option::Entry => match command {
@@ -104,11 +110,16 @@ pub fn takes(command: Command, option: Option) -> bool {
             _ => false,
         },
         Option::Size => match command {
-            Command::Plan | Command::Check | Command::Image | Command::Picture => true,
+            Command::Plan | Command::Check | Command::Cuts | Command::Image | Command::Picture =>
+                true,
             _ => false,
         },
         Option::Expect => match command {
-            Command::Check => true,
+            Command::Check | Command::Cuts => true,
+            _ => false,
+        },
+        Option::Region => match command {
+            Command::Cuts => true,
             _ => false,
         },
         Option::Force => match command {
@@ -121,7 +132,7 @@ pub fn takes(command: Command, option: Option) -> bool {
 // How many files a command wants.
 pub fn wanted(command: Command) -> usize {
     match command {
-        Command::Plan | Command::Check | Command::Picture => 2,
+        Command::Plan | Command::Check | Command::Cuts | Command::Picture => 2,
         Command::Show | Command::Image | Command::Record => 1,
         _ => 0,
     }

@@ -24,6 +24,8 @@ pub struct Options {
     pub second: Name,
     // The password's file; none for the password of the vendor's page.
     pub password: Name,
+    // The file of a region as a card held it; none for 0x00 throughout.
+    pub region: Name,
     pub entry: u32,
     pub size: usize,
     // The expected checksum, 65,536 for the image's own.
@@ -82,6 +84,7 @@ fn defaults() -> Options {
         first: nothing(),
         second: nothing(),
         password: nothing(),
+        region: nothing(),
         entry: ENTRY,
         size: SIZE,
         expect: OWN,
@@ -170,6 +173,10 @@ fn with_value(option: Option, word: &[u8], value: Name, options: Options) -> Opt
     match option {
         Option::Password => {
             changed.password = value;
+            changed
+        }
+        Option::Region => {
+            changed.region = value;
             changed
         }
         Option::Entry => with_entry(changed, part),

@@ -1,17 +1,13 @@
-// Calls and traces, answered.
+// Calls, answered.
 use crate::settings::Setup;
 use card::Answer;
 use card::Card;
 use loader::Mode;
 use refusal::Refusal;
-use trace_text::Traced;
 use vector_lines::show;
 
 // What every byte of the reply buffer is before a call.
 const BEFORE: u8 = 0xEE;
-
-// The longest trace that is shown.
-const SHOWN: usize = 2048;
 
 fn mode_name(mode: Mode) {
     match mode {
@@ -125,55 +121,6 @@ pub fn call(setup: Setup, message: &[u8], password: &[u8], region: &mut [u8]) ->
         &mut region[..held],
         &mut reply[..room],
     )
-}
-
-// A line of a text before a stroke.
-fn line(words: &[u8]) {
-    show::text(b" ");
-    show::text(words);
-    show::text(b" /");
-}
-
-// The lines of a text, behind each other.
-fn lines(text: &[u8]) {
-    let mut at = 0;
-    while at < text.len() {
-        let next = byte_parts::line_at(text, at);
-        line(next);
-        at = at + next.len() + 1;
-    }
-}
-
-// A text that is too long to be shown: its length and its checksum.
-fn length_only(text: &[u8]) {
-    show::decimal(text.len());
-    show::text(b" bytes");
-    show::hex(crc::checksum(text) as usize, 4);
-}
-
-// The first n bytes of a text, if it has as many.
-fn front(text: &[u8], n: usize) {
-    if text.len() < n {
-        show::text(b" above the buffer's length");
-        return;
-    }
-    if SHOWN < n {
-        length_only(&text[..n]);
-        return;
-    }
-    lines(&text[..n]);
-}
-
-// The trace of a script.
-pub fn trace(script: &[u8]) {
-    let mut text = [0u8; trace_text::ROOM];
-    match trace_text::write(script, &mut text) {
-        Traced::Refused(why) => {
-            show::text(b" refused");
-            show::decimal(refusal::number(why) as usize);
-        }
-        Traced::Written(n) => front(&text, n),
-    }
 }
 
 // The password's length.

@@ -42,10 +42,6 @@ fn carry_out(
 ) -> Setup {
     match order {
         Order::Call => settings::with_card(before, answers::call(asked, bytes, password, region)),
-        Order::Trace => {
-            answers::trace(bytes);
-            before
-        }
         Order::Key => key(bytes, asked, password),
         Order::Record => record(bytes, asked),
         Order::Setting => {

@@ -30,7 +30,6 @@ pub struct Asked {
 // The orders of lines.
 pub enum Order {
     Call,
-    Trace,
     Key,
     Record,
     // None: the word is a setting's name.
@@ -63,9 +62,6 @@ pub fn order_of(word: &[u8]) -> Order {
     if same(word, b"call") {
         return Order::Call;
     }
-    if same(word, b"trace") {
-        return Order::Trace;
-    }
     if same(word, b"key") {
         return Order::Key;
     }
@@ -79,7 +75,6 @@ pub fn order_of(word: &[u8]) -> Order {
 fn is_setting(word: &[u8]) -> bool {
     match order_of(word) {
         Order::Call => false,
-        Order::Trace => false,
         Order::Key => false,
         Order::Record => false,
         Order::Setting => true,

@@ -111,7 +111,7 @@ loader-stands card region password message buffer fits =
 
 module _ (card : Card) (size : ℕ) (region password message buffer : List ℕ) where
   -- what holds of a refused call and of each kind of mode holds of a call
-  call-cases : (P : After → Type 0) → ((n : ℕ) → P (after card region buffer (refused n)))
+  pub call-cases : (P : After → Type 0) → ((n : ℕ) → P (after card region buffer (refused n)))
       → (isApplication (card .loader .mode) ≡ true → room (card .loader .mode) ≤ length buffer → P (inApplication card region message buffer))
       → (isApplication (card .loader .mode) ≡ false → room (card .loader .mode) ≤ length buffer → P (inLoader card region password message buffer))
       → P (callOf card size region password message buffer)

@@ -18,7 +18,16 @@ fn main() {
     let mut ones = input_rooms::region_room();
     match command {
         Command::Plan => tool_output::plan::run(options, &mut text, &mut script, &mut zeros),
-        Command::Check => check::run(options, &mut text, &mut script, &mut zeros, &mut ones),
+        Command::Check | Command::Cuts => {
+            check::run(
+                command,
+                options,
+                &mut text,
+                &mut script,
+                &mut zeros,
+                &mut ones,
+            )
+        }
         Command::Show => tool_show::run(options, &mut script),
         Command::Image => tool_image::run(options, &mut text, &mut zeros),
         Command::Picture => tool_output::picture::run(options, &mut text, &mut zeros),

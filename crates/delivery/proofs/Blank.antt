@@ -19,26 +19,12 @@ use Rattle.firmware_text.specs.Segments.{bytesAhead}
 use Rattle.firmware_text.proofs.Values.{Valued}
 use Rattle.flash.specs.Flash.{writable}
 use Rattle.little_endian.specs.Bytes.{storedAt}
+use Rattle.little_endian.proofs.AllBytes.{AllBytes}
 use Rattle.little_endian.proofs.Stored.{stored-length, stored-behind}
 use Rattle.text_image.specs.Picture.{placed}
 use Rattle.text_image.specs.Rules.{outsideOf, among, repeatedOf}
 use Rattle.text_image.proofs.Pictures.{once-more}
 use Rattle.text_image.proofs.Sounds.{not-none}
-
--- each element is a byte
-abbrev pub AllBytes : List ℕ → Type 0
-AllBytes [] = Unit
-AllBytes (b ∷ bytes) = (b < 256) × AllBytes bytes
-
-pub bytes-take : (n : ℕ) (l : List ℕ) → AllBytes l → AllBytes (take n l)
-bytes-take zero l a = tt
-bytes-take (suc n) [] a = tt
-bytes-take (suc n) (x ∷ l) a = (a .0, bytes-take n l (a .1))
-
-pub bytes-drop : (n : ℕ) (l : List ℕ) → AllBytes l → AllBytes (drop n l)
-bytes-drop zero l a = a
-bytes-drop (suc n) [] a = tt
-bytes-drop (suc n) (x ∷ l) a = bytes-drop n l (a .1)
 
 -- so many bytes of a region from an address on are 0xFF
 pub record Blank (region : List ℕ) (at n : ℕ) : Type 0 where

@@ -1,12 +1,10 @@
 -- The page's own scripts work on any region.
 -- Assumes nothing.
 use mathlib.Core.Path.{_≡_, refl, sym, ap, _∙_, subst}
-use mathlib.Core.Bool.{Bool, true, false}
+use mathlib.Core.Bool.{true, false}
 use mathlib.Core.List.{List, [], _∷_, _++_, map, append-assoc}
 use Prim.Native.Nat.{ℕ, zero, suc, _+_, _/_, _<_, _≤_}
 use native.Mathlib.Omega.{arith}
-use borrow.Author.Tests.{ltb-true, ltb-false}
-use lib.Dec.{ltb}
 use lib.ListN.{length, take, drop, replicate, length-drop, take-append-drop}
 use lib.Seq.{length-take-le, sets, sets-eq}
 use Rattle.card.specs.Call.{withLoader}
@@ -15,7 +13,8 @@ use Rattle.crc.specs.Crc.{checksumOf}
 use Rattle.firmware_text.specs.Image.{Image, segment, byte, end, broken}
 use Rattle.firmware_text.specs.Segments.{bytesAhead, segmentsOf}
 use Rattle.little_endian.specs.Bytes.{storedAt}
-use Rattle.little_endian.proofs.Stored.{stored-between, stored-length, stored-nothing, stored-not, stored-joined}
+use Rattle.little_endian.proofs.AllBytes.{AllBytes, bytes-take, bytes-drop}
+use Rattle.little_endian.proofs.Stored.{stored-between, stored-length, stored-nothing, stored-joined}
 use Rattle.loader.specs.Loader.{Outcome, outcome, isApplication, receivedOf}
 use Rattle.loader.specs.declared.Mode.the-variants.{Locked}
 use Rattle.loader.specs.declared.Reply.the-variants.{Message, Data}
@@ -27,20 +26,12 @@ use Rattle.text_image.specs.Picture.{placed}
 use Rattle.delivery.specs.Sending.{Roomy}
 use Rattle.delivery.proofs.Step.{Ok}
 use Rattle.delivery.proofs.Sent.{Sent, send-last, send-next}
-use Rattle.delivery.proofs.Blank.{AllBytes, bytes-take, bytes-drop, Blank, blank-writable, blank-first, blank-second, Ready, past, ready-segment, ahead-inside, ahead-blank, ahead-bytes, ahead-put}
+use Rattle.delivery.proofs.Blank.{Blank, blank-writable, blank-first, blank-second, Ready, past, ready-segment, ahead-inside, ahead-blank, ahead-bytes, ahead-put}
 use Rattle.delivery.proofs.Cores.{unlocked, sent-password, sent-erase, sent-write, sent-range, sent-start}
-
--- no bytes stored anywhere
-stored-none : (a : ℕ) (region : List ℕ) → storedAt a [] region ≡ region
-stored-none a region = go (ltb (length region) a) refl
-  where
-    go : (t : Bool) → ltb (length region) a ≡ t → storedAt a [] region ≡ region
-    go true h = stored-not a [] region (omega (arith, ltb-true (length region) a h))
-    go false h = stored-nothing a region (ltb-false (length region) a h)
 
 -- bytes stored one by one, where they fit or there are none
 one-by-one : (a : ℕ) (bytes region : List ℕ) → (1 ≤ length bytes → a + length bytes ≤ length region) → sets region a bytes ≡ storedAt a bytes region
-one-by-one a [] region fits = sym (stored-none a region)
+one-by-one a [] region fits = sym (stored-nothing a region)
 one-by-one a (b ∷ bytes) region fits =
     let room = fits (omega arith) in
     sets-eq (b ∷ bytes) region a room ∙ append-assoc (take a region) (b ∷ bytes) _ ∙ sym (stored-between a (b ∷ bytes) region room)
@@ -93,7 +84,7 @@ module _ (n : ℕ) (good : goodSize n ≡ true) (password : List ℕ) (wide : le
   blocks-do : (count i a : ℕ) (bytes region : List ℕ) (cores : List (List ℕ)) → count ≡ length bytes / 256 → length region ≡ n → (1 ≤ length bytes → Blank region a (length bytes)) → AllBytes bytes
       → ((j : ℕ) → Does j here (storedAt a bytes region) cores) → Does i here region (blocks count a bytes ++ cores)
   unfolding blocks
-  blocks-do zero i a [] region cores e sized b bytes more = subst (λ (r : List ℕ). Does i here r cores) (stored-none a region) (more i)
+  blocks-do zero i a [] region cores e sized b bytes more = subst (λ (r : List ℕ). Does i here r cores) (stored-nothing a region) (more i)
   blocks-do zero i a (x ∷ bytes) region cores e sized b all more = write-does i a (x ∷ bytes) region cores sized (b (omega arith)) all (omega arith) (omega arith) (more (suc i))
   blocks-do (suc count) i a bytes region cores e sized b all more =
       let full : 256 ≤ length bytes = omega arith in

@@ -21,6 +21,10 @@ writable old [] = true
 writable [] (n ∷ new) = false
 writable (o ∷ old) (n ∷ new) = eqb n (bitAnd o n) && writable old new
 
+-- a region allows new bytes at an address: they are inside it, and every byte equals old AND new
+abbrev pub allowsOf : List ℕ → ℕ → List ℕ → Bool
+allowsOf new address region = inside address (length new) (length region) && writable (take (length new) (drop address region)) new
+
 -- whether the bytes were written, and the region then
 pub record Written : Type 0 where
   pub done : Bool
@@ -30,12 +34,9 @@ pub record Written : Type 0 where
 abbrev pub written : Bool → List ℕ → Written
 written done region = record { done = done; region = region }
 
--- a write: inside the region, and every byte equals old AND new; otherwise no byte is written
+-- a write: what the region allows; otherwise no byte is written
 unfoldable pub writeOf : List ℕ → ℕ → List ℕ → Written
-writeOf new address region =
-    cond (inside address (length new) (length region) && writable (take (length new) (drop address region)) new)
-    (written true (storedAt address new region))
-    (written false region)
+writeOf new address region = cond (allowsOf new address region) (written true (storedAt address new region)) (written false region)
 
 -- the checksum of a range, where it is inside the region
 unfoldable pub rangeOf : ℕ → ℕ → List ℕ → RangeSum

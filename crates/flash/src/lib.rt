@@ -4,7 +4,7 @@
 ghost use mathlib.Core.Path.{_≡_};
 ghost use mathlib.Core.Bool.{cond};
 ghost use Rattle.little_endian.specs.Bytes.{storedAt};
-ghost use Rattle.flash.specs.Flash.{inside, writable, written, writeOf, rangeOf, startsOf};
+ghost use Rattle.flash.specs.Flash.{inside, writable, allowsOf, written, writeOf, rangeOf, startsOf};
 
 // The checksum of a range.
 pub enum RangeSum {
@@ -44,6 +44,18 @@ fn is_writable(old: &[u8], new: &[u8]) -> bool
     true
 }
 
+// Whether a region allows new bytes at an address: the range is inside the region, and every byte of
+// it allows the new one.
+pub fn allows(new: &[u8], address: usize, region: &[u8]) -> bool
+    ensures { λ r. ⌜ r ≡ allowsOf (now (new .entry)) address (now (region .entry)) ⌝ }
+{
+    if !is_inside(address, new.len(), region.len()) {
+        return false;
+    }
+    let end = address + new.len();
+    is_writable(&region[address..end], new)
+}
+
 // New bytes stored at an address, if that is allowed.
 fn store_if(allowed: bool, new: &[u8], address: usize, region: &mut [u8])
     ensures { λ _. ⌜ now (region .exit) ≡ cond allowed (storedAt address (now (new .entry)) (now (region .entry))) (now (region .entry)) ⌝ }
@@ -54,16 +66,11 @@ fn store_if(allowed: bool, new: &[u8], address: usize, region: &mut [u8])
     little_endian::store(new, address, region);
 }
 
-// A write. The answer is false, and the region as it was, if the range is not inside the region or
-// some byte of it does not allow the new one.
+// A write. The answer is false, and the region as it was, if the region does not allow the new bytes.
 pub fn write(new: &[u8], address: usize, region: &mut [u8]) -> bool
     ensures { λ r. ⌜ written r (now (region .exit)) ≡ writeOf (now (new .entry)) address (now (region .entry)) ⌝ }
 {
-    if !is_inside(address, new.len(), region.len()) {
-        return false;
-    }
-    let end = address + new.len();
-    let allowed = is_writable(&region[address..end], new);
+    let allowed = allows(new, address, region);
     store_if(allowed, new, address, region);
     allowed
 }

@@ -1,11 +1,13 @@
 -- Laws of bytes stored at a place: as a lent part comes back, and one store behind another.
 -- Assumes nothing.
-use mathlib.Core.Path.{_≡_, sym, ap, ap₂, _∙_}
+use mathlib.Core.Path.{_≡_, refl, sym, ap, ap₂, _∙_}
+use mathlib.Core.Bool.{Bool, true, false}
 use mathlib.Core.List.{List, [], _∷_, _++_, append-nil, append-assoc}
 use Prim.Native.Nat.{ℕ, _+_, _-_, _≤_, _<_}
 use native.Mathlib.Nat.{add-assoc, add-zero}
 use native.Mathlib.Omega.{arith}
-use borrow.Author.Tests.{le-leb, lt-leb}
+use borrow.Author.Tests.{le-leb, lt-leb, leb-true, leb-false}
+use lib.Dec.{leb}
 use lib.ListN.{length, take, drop, length-append, length-drop, drop-of-length-le, take-append-drop}
 use lib.Seq.{take-all, take-at, drop-at, take-length, drop-drop, drop-append-add, length-take-le}
 use Rattle.little_endian.specs.Bytes.{storedAt, putBehind, joined}
@@ -44,9 +46,13 @@ pub stored-not : (at : ℕ) (new old : List ℕ) → length old < at + length ne
 unfolding storedAt
 stored-not at new old past = rw (lt-leb (at + length new) (length old) past)
 
--- nothing stored at a place
-pub stored-nothing : (at : ℕ) (old : List ℕ) → at ≤ length old → storedAt at [] old ≡ old
-stored-nothing at old fits = stored-between at [] old (omega arith) ∙ rw add-zero (take-append-drop at old)
+-- nothing stored, at any place
+pub stored-nothing : (at : ℕ) (old : List ℕ) → storedAt at [] old ≡ old
+stored-nothing at old = go (leb (at + 0) (length old)) refl
+  where
+    go : (t : Bool) → leb (at + 0) (length old) ≡ t → storedAt at [] old ≡ old
+    go true e = stored-between at [] old (leb-true _ _ e) ∙ rw add-zero (take-append-drop at old)
+    go false e = stored-not at [] old (leb-false _ _ e)
 
 -- bytes stored right behind others are stored with them
 pub stored-joined : (at : ℕ) (x y old : List ℕ) → at + (length x + length y) ≤ length old
@@ -79,7 +85,7 @@ storedInTurn at (x ∷ xs) old = storedInTurn (at + length x) xs (storedAt at x 
 -- storing them one after the other stores them all
 pub in-turn : (at : ℕ) (xs : List (List ℕ)) (old : List ℕ) → at + length (joined xs) ≤ length old
     → storedInTurn at xs old ≡ storedAt at (joined xs) old
-in-turn at [] old fits = sym (stored-nothing at old (omega arith))
+in-turn at [] old fits = sym (stored-nothing at old)
 in-turn at (x ∷ xs) old fits =
     let room : at + (length x + length (joined xs)) ≤ length old = rw (← length-append x (joined xs)) fits in
     in-turn (at + length x) xs (storedAt at x old) (rw (stored-length at x old (omega arith)) (omega arith))

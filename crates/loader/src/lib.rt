@@ -3,6 +3,8 @@
 // is the one place that does.
 mod obey;
 
+pub use obey::behind;
+pub use obey::holds_back;
 use obey::obey;
 ghost use mathlib.Core.Path.{_≡_};
 ghost use Rattle.loader.specs.Loader.{outcome, isApplication, succeededOf, receivedOf};

@@ -6,7 +6,7 @@ use crate::Reply;
 use flash::RangeSum;
 use packet::Command;
 ghost use mathlib.Core.Path.{_≡_};
-ghost use mathlib.Core.Bool.{cond};
+ghost use mathlib.Core.Bool.{cond, not, _&&_};
 ghost use mathlib.Core.List.{List};
 ghost use Prim.Native.Nat.{ℕ};
 ghost use lib.ListN.{drop};
@@ -36,8 +36,16 @@ fn wants_unlocked(command: Command) -> bool
     }
 }
 
+// Whether the lock holds a command back.
+pub fn holds_back(mode: Mode, command: Command) -> bool
+    ensures { λ r. ⌜ r ≡ (wantsUnlocked command && not (isUnlocked mode)) ⌝ }
+{
+    let locked = !is_unlocked(mode);
+    wants_unlocked(command) & locked
+}
+
 // What stands behind so many bytes of a core.
-fn behind(core: &[u8], n: usize) -> &[u8]
+pub fn behind(core: &[u8], n: usize) -> &[u8]
     ensures { λ r. ⌜ now r ≡ drop n (now (core .entry)) ⌝ }
 {
     if core.len() < n {
@@ -168,9 +176,7 @@ pub fn obey(loader: Loader, region: &mut [u8], password: &[u8], core: &[u8]) -> 
 {
     let command = packet::command_of(core);
     let mode = loader.mode;
-    let locked = !is_unlocked(mode);
-    let held_back = wants_unlocked(command) & locked;
-    if held_back {
+    if holds_back(mode, command) {
         return Received {
             loader,
             reply: Reply::Message(0x04),

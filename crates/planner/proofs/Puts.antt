@@ -55,7 +55,7 @@ room-then x y n old h mid r new sized first second = (
 
 -- nothing put behind
 pub room-nothing : (n : ℕ) (old : List ℕ) → putIfRoom [] n old n old
-room-nothing n old = (omega arith, λ room. sym (stored-nothing n old (omega arith)))
+room-nothing n old = (omega arith, λ room. sym (stored-nothing n old))
 
 -- ---- the parts of a script
 

@@ -12,12 +12,12 @@ use Rattle.refusal.specs.Refusal.{numberOf}
 use Rattle.refusal.specs.declared.Refusal.{Refusal}
 use Rattle.refusal.specs.declared.Refusal.the-variants as the
 
--- the refusals from number 1 on
+-- the refusals from number 1 on; 19 and 20 are of no refusal, and a filler stands there
 inOrder : List Refusal
 inOrder =
     the.RegionSize ∷ the.PasswordLength ∷ the.TextMalformed ∷ the.AddressOutside ∷ the.AddressRepeated ∷ the.ScriptHead ∷ the.PacketCut ∷ the.RefusedOverZeros
     ∷ the.RefusedOverOnes ∷ the.PictureDiffers ∷ the.BytesAfterStart ∷ the.NotStarted ∷ the.OutputShort ∷ the.EntryOutside ∷ the.RequestUnknown ∷ the.RequestForOtherCard
-    ∷ the.RecordUnsound ∷ the.TooLong ∷ []
+    ∷ the.RecordUnsound ∷ the.TooLong ∷ the.RegionSize ∷ the.RegionSize ∷ the.CutBeyondWork ∷ []
 
 -- the refusal that has a number
 named : ℕ → Refusal
@@ -43,6 +43,7 @@ named-again the.NotStarted = refl
 named-again the.RequestUnknown = refl
 named-again the.RequestForOtherCard = refl
 named-again the.RecordUnsound = refl
+named-again the.CutBeyondWork = refl
 
 pub distinct : (a b : Refusal) → numberOf a ≡ numberOf b → a ≡ b
 distinct a b same = sym (named-again a) ∙ ap named same ∙ named-again b

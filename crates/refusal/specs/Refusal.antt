@@ -1,4 +1,4 @@
--- The numbers of the refusals (document 01, "Refusal numbers"), in the order of its table.
+-- The numbers of the refusals (document 01, "Refusal numbers"), in the order of its table, then those of document 02 (T-07).
 -- Assumes nothing.
 use Prim.Native.Nat.{ℕ}
 use Rattle.refusal.specs.declared.Refusal.{Refusal}
@@ -21,9 +21,10 @@ use Rattle.refusal.specs.declared.Refusal.the-variants.{
   RequestUnknown,
   RequestForOtherCard,
   RecordUnsound,
+  CutBeyondWork,
 }
 
--- document 01's number of a refusal
+-- the papers' number of a refusal
 abbrev pub numberOf : Refusal → ℕ
 numberOf RegionSize = 1
 numberOf PasswordLength = 2
@@ -43,3 +44,4 @@ numberOf NotStarted = 12
 numberOf RequestUnknown = 15
 numberOf RequestForOtherCard = 16
 numberOf RecordUnsound = 17
+numberOf CutBeyondWork = 21

@@ -1,5 +1,6 @@
-// The refusals of document 01, one case for each row of its table and in the table's order, which
-// is the order in which they are judged. Every answer that refuses names one of these.
+// The refusals: those of document 01, one case for each row of its table and in the table's order, which
+// is the order in which they are judged; then those of document 02, which says where each is judged. Every
+// answer that refuses names one of these.
 ghost use mathlib.Core.Path.{_≡_};
 ghost use Rattle.refusal.specs.Refusal.{numberOf};
 
@@ -40,9 +41,11 @@ pub enum Refusal {
     RequestForOtherCard,
     // The sensor record breaks its rule, or is not 64 bytes to read.
     RecordUnsound,
+    // The place of a cut is beyond the packet's work: document 02's T-07, judged right after 2.
+    CutBeyondWork,
 }
 
-// Document 01's number of a refusal.
+// The papers' number of a refusal.
 pub fn number(refusal: Refusal) -> u8
     ensures { λ r. ⌜ r ≡ numberOf refusal ⌝ }
 {
@@ -65,5 +68,6 @@ pub fn number(refusal: Refusal) -> u8
         Refusal::RequestUnknown => 15,
         Refusal::RequestForOtherCard => 16,
         Refusal::RecordUnsound => 17,
+        Refusal::CutBeyondWork => 21,
     }
 }

@@ -8,13 +8,9 @@ use report::Line;
 use tool_words::cause;
 use tool_words::packets;
 
-// Where the columns of a list begin: offset, command, address, length, acknowledgement. A number of packets
-// or a length ends before the column that comes next.
-const OFFSET: usize = 10;
-
-const COMMAND: usize = 30;
-
-const ADDRESS: usize = 49;
+// Where the columns behind the command begin: address, length, acknowledgement. A length ends before the column that
+// comes next.
+const ADDRESS: usize = packets::BEHIND;
 
 const LENGTH: usize = 70;
 
@@ -48,13 +44,7 @@ fn operands(line: Line, core: &[u8]) -> Line {
 
 // The line of a packet.
 fn row(number: usize, at: usize, packet: &[u8]) {
-    let start = Line::new()
-        .right(number, OFFSET - 3)
-        .to(OFFSET)
-        .decimal(at)
-        .text(b" (")
-        .hex(at);
-    let named = packets::command(start.text(b")").to(COMMAND), packet);
+    let named = packets::row(number, at, packet);
     let line = operands(named, packet::core(packet)).to(ACKNOWLEDGEMENT);
     packets::acknowledgement(line, packet::acknowledgement(packet)).print();
 }
@@ -75,13 +65,8 @@ fn rows(script: &[u8]) {
 }
 
 fn heading() {
-    let line = Line::new()
-        .text(b"packet")
-        .to(OFFSET)
-        .text(b"offset")
-        .to(COMMAND)
-        .text(b"command");
-    let more = line.to(ADDRESS)
+    let more = packets::heading()
+        .to(ADDRESS)
         .text(b"address")
         .to(LENGTH - 6)
         .text(b"length");

@@ -82,6 +82,11 @@ pub fn passed(script: &[u8], text: &[u8], behind: Behind) {
     lines::number(b"packets ", behind.packets);
     lines::checksum(b"expected checksum ", behind.expected);
     entry::print(text, packets::last_address(script));
+    Line::new()
+        .text(
+            b"after a power cut: send 31; if the card answers 02, send 32; then send the whole script again",
+        )
+        .print();
 }
 
 // Says that a script is refused: why, where, what the loader answers there over the region that the check left, and how

@@ -8,7 +8,7 @@ use report::Line;
 fn cause(line: Line, number: usize) -> Line {
     line.text(line_of(
         b"no refusal
-the size is not a multiple of 4096 from 4096 to 262144
+the size is not a multiple of 4096 from 4096 to 262144, or a region is not that long
 the password is not 256 bytes
 the firmware text is malformed
 a data byte is outside the region

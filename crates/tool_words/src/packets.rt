@@ -11,6 +11,14 @@ ghost use lib.ListN.{length};
 // The length of a script's head.
 pub const HEAD: usize = 5;
 
+// Where the columns of a list of packets begin: offset, command, and what stands behind it. The number of a packet ends
+// before the column that comes next.
+const OFFSET: usize = 10;
+
+const COMMAND: usize = 30;
+
+pub const BEHIND: usize = 49;
+
 // How many packets a script has, the offset of the last of them, and the offset where its framing ends: the
 // script's end, or the start of a packet that is cut.
 pub struct Framed {
@@ -144,4 +152,25 @@ pub fn message(line: Line, code: u8) -> Line {
 ",
     );
     line.code(code as usize, 2).text(words)
+}
+
+// The heading of a list of packets, as far as every list has it.
+pub fn heading() -> Line {
+    Line::new()
+        .text(b"packet")
+        .to(OFFSET)
+        .text(b"offset")
+        .to(COMMAND)
+        .text(b"command")
+}
+
+// The line of a packet, as far as every list has it: its number, its offset and its command.
+pub fn row(number: usize, at: usize, packet: &[u8]) -> Line {
+    let line = Line::new()
+        .right(number, OFFSET - 3)
+        .to(OFFSET)
+        .decimal(at)
+        .text(b" (")
+        .hex(at);
+    command(line.text(b")").to(COMMAND), packet)
 }

@@ -1,4 +1,5 @@
--- What the public functions leave in lent memory, for programs in C and Rust: the answer's numbers, and every lent byte (document 01, "What the contracts must say").
+-- What the public functions leave in lent memory, for programs in C and Rust: the answer's numbers, and every lent byte
+-- (document 01, "What the contracts must say"; document 02, T-07).
 -- Assumes nothing.
 use mathlib.Core.List.{List}
 use Prim.Native.Nat.{ℕ}
@@ -8,11 +9,12 @@ use Rattle.planner.specs.Plan as plan
 use Rattle.delivery.specs.Check.{Checked}
 use Rattle.application.specs.declared.Version.{Version}
 use Rattle.card.specs.Call.{After}
+use Rattle.card.specs.Mains.{Cut, Restart}
 use Rattle.card.specs.declared.Card.{Card}
 use Rattle.sensor_record.specs.Answers.{Answer, refused, held, Output}
 use Rattle.record_layout.specs.Layout.{valueBytes}
 use Rattle.record_layout.specs.Reading.{valuesIn}
-use Rattle.zlatopysk.specs.Numbers.{numbers, readNumbers, planNumbers, checkNumbers, modeOf, callNumbers}
+use Rattle.zlatopysk.specs.Numbers.{numbers, readNumbers, planNumbers, checkNumbers, modeOf, callNumbers, cutNumbers, restartNumbers}
 
 -- the numbers of an answer, and the lent bytes then
 pub record Left : Type 0 where
@@ -57,6 +59,14 @@ cardOf mode expected version values =
 -- a call: its answer, the region and the reply buffer
 abbrev pub callLeft : After → LeftBoth
 callLeft a = leftBoth (callNumbers (a .answer) (a .card .loader .mode)) (a .region) (a .buffer)
+
+-- a cut: its answer, and the region
+abbrev pub cutLeft : Cut → Left
+cutLeft c = left (cutNumbers (c .answer)) (c .region)
+
+-- a restart: its answer, and the mode, which is all of the card that it changes
+abbrev pub restartLeft : Restart → List ℕ
+restartLeft r = restartNumbers (r .answer) (r .card .loader .mode)
 
 -- the record's reader: its answer, and the 87 bytes of values, as they were where it refuses
 abbrev pub heldLeft : Answer → List ℕ → Left

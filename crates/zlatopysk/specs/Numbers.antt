@@ -1,4 +1,5 @@
--- The answers of the public functions as numbers, for programs in C and Rust (document 01, "Refusal numbers", "The loader").
+-- The answers of the public functions as numbers, for programs in C and Rust
+-- (document 01, "Refusal numbers", "The loader"; document 02, T-07).
 -- Assumes nothing.
 use mathlib.Core.Bool.{cond}
 use mathlib.Core.List.{List, [], _∷_}
@@ -11,6 +12,7 @@ use Rattle.text_image.specs.Rules as rules
 use Rattle.planner.specs.Plan as plan
 use Rattle.delivery.specs.Check as check
 use Rattle.card.specs.Call as call
+use Rattle.card.specs.Mains as mains
 
 -- three numbers: the refusal's, 0 for none, which is no refusal's number; its place; a count
 abbrev pub numbers : ℕ → ℕ → ℕ → List ℕ
@@ -45,3 +47,13 @@ modeOf n = cond (eqb n 0) Application (cond (eqb n 2) Unlocked Locked)
 abbrev pub callNumbers : call.Said → Mode → List ℕ
 callNumbers (call.refused number) mode = number ∷ 0 ∷ 0 ∷ modeNumber mode ∷ []
 callNumbers (call.replied count success) mode = 0 ∷ count ∷ cond success 1 0 ∷ modeNumber mode ∷ []
+
+-- a cut's answer; it has no place and counts nothing
+abbrev pub cutNumbers : mains.Ending → List ℕ
+cutNumbers (mains.refused number) = numbers number 0 0
+cutNumbers mains.done = numbers 0 0 0
+
+-- a restart's answer, two numbers: the refusal's, 0 for none; the number of the mode that the card has then
+abbrev pub restartNumbers : mains.Ending → Mode → List ℕ
+restartNumbers (mains.refused number) mode = number ∷ modeNumber mode ∷ []
+restartNumbers mains.done mode = 0 ∷ modeNumber mode ∷ []

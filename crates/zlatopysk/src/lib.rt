@@ -1,4 +1,4 @@
-// The public functions of document 01 for programs in C and Rust; bindings/c/zlatopysk.h declares them. Each takes
+// The public functions of documents 01 and 02 for programs in C and Rust; bindings/c/zlatopysk.h declares them. Each takes
 // what its namesake in the crates below takes, and writes its answer as numbers into memory that the caller lends.
 // None asks anything of its input, and each contract fixes the answer and every lent byte. A slice is a pointer and
 // a length, an array a pointer alone.
@@ -15,10 +15,12 @@ ghost use Rattle.ti_txt.specs.Answers.{readOf};
 ghost use Rattle.planner.specs.Plan.{planOf};
 ghost use Rattle.delivery.specs.Check.{checkOf};
 ghost use Rattle.card.specs.Call.{callOf};
+ghost use Rattle.card.specs.Mains.{cutOf, restartOf};
 ghost use Rattle.sensor_record.specs.Answers as records;
 ghost use Rattle.sensor_record.specs.Power.{wattsOf};
 ghost use Rattle.record_layout.specs.Reading.{valuesIn};
-ghost use Rattle.zlatopysk.specs.Lent.{left, leftBoth, readLeft, planLeft, checkLeft, cardOf, callLeft, heldLeft, writtenLeft};
+ghost use Rattle.zlatopysk.specs.Lent.{left, leftBoth, readLeft, planLeft, checkLeft, heldLeft, writtenLeft};
+ghost use Rattle.zlatopysk.specs.Lent.{cardOf, callLeft, cutLeft, restartLeft};
 
 // The checksum of bytes.
 #[no_mangle]
@@ -111,6 +113,47 @@ pub extern "C" fn zlatopysk_call(
     let answer = after.answer;
     let state = after.card;
     *called = numbers::of_call(answer, state);
+}
+
+// A message to a card that loses its mains at a place of the message's work.
+#[no_mangle]
+pub extern "C" fn zlatopysk_cut(
+    mode: u8,
+    expected: u16,
+    version: &[u8; 3],
+    record: &[u8; 87],
+    size: usize,
+    region: &mut [u8],
+    password: &[u8],
+    message: &[u8],
+    place: usize,
+    answer: &mut [u64; 3],
+)
+    ensures { λ _. ⌜ left (now (answer .exit)) (now (region .exit)) ≡ cutLeft (cutOf (cardOf mode expected (now (version .entry)) (now («record» .entry))) size (now (region .entry)) (now (password .entry)) (now (message .entry)) place) ⌝ }
+{
+    let card = card_of(mode, expected, version, record);
+    let ended = card::cut(card, size, region, password, message, place);
+    *answer = numbers::of_cut(ended);
+}
+
+// The mains come back.
+#[no_mangle]
+pub extern "C" fn zlatopysk_restart(
+    mode: u8,
+    expected: u16,
+    version: &[u8; 3],
+    record: &[u8; 87],
+    size: usize,
+    region: &[u8],
+    restarted: &mut [u64; 2],
+)
+    ensures { λ _. ⌜ now (restarted .exit) ≡ restartLeft (restartOf (cardOf mode expected (now (version .entry)) (now («record» .entry))) size (now (region .entry))) ⌝ }
+{
+    let card = card_of(mode, expected, version, record);
+    let after = card::restart(card, size, region);
+    let answer = after.answer;
+    let state = after.card;
+    *restarted = numbers::of_restart(answer, state);
 }
 
 // The values of a card's sensor record in 64 bytes.

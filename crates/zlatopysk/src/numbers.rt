@@ -1,6 +1,7 @@
 // Answers as numbers, and modes.
 use card::Answer;
 use card::Card;
+use card::Ended;
 use checker::Checked;
 use loader::Mode;
 use planner::Planned;
@@ -13,7 +14,9 @@ ghost use Rattle.text_image.specs.Rules.{judged};
 ghost use Rattle.planner.specs.Plan as plan;
 ghost use Rattle.checker.specs.Answers as checks;
 ghost use Rattle.card.specs.Call as calls;
-ghost use Rattle.zlatopysk.specs.Numbers.{numbers, readNumbers, planNumbers, checkNumbers, modeNumber, modeOf, callNumbers};
+ghost use Rattle.card.specs.Mains.{endingOf};
+ghost use Rattle.zlatopysk.specs.Numbers.{numbers, readNumbers, planNumbers, checkNumbers};
+ghost use Rattle.zlatopysk.specs.Numbers.{modeNumber, modeOf, callNumbers, cutNumbers, restartNumbers};
 
 // A refusal, and a count.
 pub fn refused(refusal: Refusal, place: usize, count: usize) -> [u64; 3]
@@ -95,5 +98,27 @@ pub fn of_call(answer: Answer, card: Card) -> [u64; 4]
     match answer {
         Answer::Refused(why) => [refusal::number(why) as u64, 0, 0, mode],
         Answer::Replied { count, success } => [0, count as u64, success_number(success), mode],
+    }
+}
+
+pub fn of_cut(ended: Ended) -> [u64; 3]
+    ensures { λ r. ⌜ r ≡ cutNumbers (endingOf ended) ⌝ }
+{
+    match ended {
+        Ended::Refused(why) => refused(why, 0, 0),
+        Ended::Done => [0, 0, 0],
+    }
+}
+
+// What a restart is answered, and the card then.
+pub fn of_restart(answer: Ended, card: Card) -> [u64; 2]
+    ensures { λ r. ⌜ r ≡ restartNumbers (endingOf answer) (card .loader .mode) ⌝ }
+{
+    let state = card.loader;
+    let mode = state.mode;
+    let mode = mode_number(mode);
+    match answer {
+        Ended::Refused(why) => [refusal::number(why) as u64, mode],
+        Ended::Done => [0, mode],
     }
 }

@@ -20,6 +20,13 @@ pub enum Class {
     Started,
     /// A request answered in application mode.
     Request(u8),
+    /// A message cut before its work, inside it, and behind all of it.
+    CutBefore,
+    CutInside,
+    CutBehind,
+    /// A card that a restart brings up.
+    UpInApplication,
+    UpLocked,
 }
 
 impl Display for Class {
@@ -32,6 +39,11 @@ impl Display for Class {
             Class::Data => write!(f, "data"),
             Class::Started => write!(f, "started"),
             Class::Request(code) => write!(f, "request 0x{code:02X}"),
+            Class::CutBefore => write!(f, "cut before the work"),
+            Class::CutInside => write!(f, "cut inside"),
+            Class::CutBehind => write!(f, "cut behind"),
+            Class::UpInApplication => write!(f, "up in application"),
+            Class::UpLocked => write!(f, "up locked"),
         }
     }
 }
@@ -138,12 +150,8 @@ pub fn call(
     let before = world.clone();
     let input = || {
         format!(
-            "message {}, card {:?}, size {}, region {}, password {}, reply buffer {}",
+            "message {}, {before}, reply buffer {}",
             show(message),
-            before.card,
-            before.size,
-            show(&before.region),
-            show(&before.password),
             reply.len()
         )
     };
@@ -188,6 +196,72 @@ fn loader_class(replied: Replied, reply: &[u8]) -> Class {
         8 => Class::Message(reply[5]),
         _ => Class::Data,
     }
+}
+
+/// One cut; the world is left as both sides leave it.
+pub fn cut(
+    sides: Sides,
+    world: &mut World,
+    message: &[u8],
+    place: usize,
+) -> Result<Class, Difference> {
+    let before = world.clone();
+    let input = || format!("message {}, place {place}, {before}", show(message));
+    let run = |side: &Implementation| {
+        let mut after = before.clone();
+        let World {
+            card,
+            size,
+            region,
+            password,
+        } = &mut after;
+        let cut = (side.cut)(card, *size, region, password, message, place);
+        (cut, after)
+    };
+    let (left, left_world) = run(sides.left);
+    let (right, right_world) = run(sides.right);
+    same("answer", left, right, input)?;
+    same("card", left_world.card, right_world.card, input)?;
+    same_bytes("region", &left_world.region, &right_world.region, input)?;
+    same("card kept", left_world.card, before.card, input)?;
+    let lent = [("region", &before.region[..], &left_world.region[..])];
+    kept_if_refused(&left, &lent, input)?;
+    *world = left_world;
+    Ok(match (left, place) {
+        (Err(refused), _) => Class::Refusal(refused.number),
+        (Ok(()), 0) => Class::CutBefore,
+        (Ok(()), _) if place < work(&before, message) => Class::CutInside,
+        (Ok(()), _) => Class::CutBehind,
+    })
+}
+
+fn work(world: &World, message: &[u8]) -> usize {
+    reference::work(&world.card, &world.region, &world.password, message)
+}
+
+/// One restart; the world is left as both sides leave it.
+pub fn restart(sides: Sides, world: &mut World) -> Result<Class, Difference> {
+    let before = world.clone();
+    let input = || before.to_string();
+    let run = |side: &Implementation| {
+        let mut after = before.clone();
+        let restarted = (side.restart)(&mut after.card, after.size, &after.region);
+        (restarted, after)
+    };
+    let (left, left_world) = run(sides.left);
+    let (right, right_world) = run(sides.right);
+    same("answer", left, right, input)?;
+    same("card", left_world.card, right_world.card, input)?;
+    same_bytes("region", &left_world.region, &before.region, input)?;
+    if left.is_err() {
+        same("card kept", left_world.card, before.card, input)?;
+    }
+    *world = left_world;
+    Ok(match (left, world.card.mode) {
+        (Err(refused), _) => Class::Refusal(refused.number),
+        (Ok(()), Mode::Application) => Class::UpInApplication,
+        (Ok(()), _) => Class::UpLocked,
+    })
 }
 
 pub fn read_record(sides: Sides, bytes: &[u8]) -> Result<Class, Difference> {
@@ -275,6 +349,19 @@ impl Display for CheckInput {
             self.size,
             self.zeros.len(),
             self.ones.len()
+        )
+    }
+}
+
+impl Display for World {
+    fn fmt(&self, f: &mut Formatter) -> fmt::Result {
+        write!(
+            f,
+            "card {:?}, size {}, region {}, password {}",
+            self.card,
+            self.size,
+            show(&self.region),
+            show(&self.password)
         )
     }
 }

@@ -7,10 +7,13 @@ pub type Plan = fn(&[u8], &[u8], u32, usize, &mut [u8]) -> Result<usize, Refused
 pub type Check = fn(&[u8], &[u8], &[u8], u16, usize, &mut [u8], &mut [u8]) -> Checked;
 pub type Call =
     fn(&mut Card, usize, &mut [u8], &[u8], &[u8], &mut [u8]) -> Result<Replied, Refused>;
+/// A cut gets the state to change, as a call does, so that one that changes it is found.
+pub type Cut = fn(&mut Card, usize, &mut [u8], &[u8], &[u8], usize) -> Result<(), Refused>;
+pub type Restart = fn(&mut Card, usize, &[u8]) -> Result<(), Refused>;
 pub type ReadRecord = fn(&[u8]) -> Result<SensorRecord, Refused>;
 pub type WriteRecord = fn(&SensorRecord, &mut [u8]) -> Result<(), Refused>;
 
-/// One implementation of document 01.
+/// One implementation of documents 01 and 02.
 #[derive(Clone, Copy)]
 pub struct Implementation {
     pub checksum: fn(&[u8]) -> u16,
@@ -18,6 +21,8 @@ pub struct Implementation {
     pub plan: Plan,
     pub check: Check,
     pub call: Call,
+    pub cut: Cut,
+    pub restart: Restart,
     pub read_record: ReadRecord,
     pub write_record: WriteRecord,
     pub total_power: fn(u16, u16) -> u16,
@@ -30,6 +35,10 @@ pub const REFERENCE: Implementation = Implementation {
     plan: reference::plan,
     check: reference::check,
     call: reference::call,
+    cut: |card, size, region, password, message, place| {
+        reference::cut(card, size, region, password, message, place)
+    },
+    restart: reference::restart,
     read_record: reference::read_record,
     write_record: reference::write_record,
     total_power: reference::total_power,
@@ -50,6 +59,8 @@ pub const LIBRARY: Implementation = Implementation {
         }
     },
     call: library_call,
+    cut: library_cut,
+    restart: library_restart,
     read_record: |bytes| across(zlatopysk::read_record(bytes)).map(Across::across),
     write_record: |record, out| across(zlatopysk::write_record(&record.across(), out)),
     total_power: zlatopysk::total_power,
@@ -70,6 +81,27 @@ fn library_call(
         count: replied.count,
         success: replied.success,
     })
+}
+
+fn library_cut(
+    card: &mut Card,
+    size: usize,
+    region: &mut [u8],
+    password: &[u8],
+    message: &[u8],
+    place: usize,
+) -> Result<(), Refused> {
+    let theirs = card.across();
+    across(zlatopysk::cut(
+        &theirs, size, region, password, message, place,
+    ))
+}
+
+fn library_restart(card: &mut Card, size: usize, region: &[u8]) -> Result<(), Refused> {
+    let mut theirs = card.across();
+    let restarted = zlatopysk::restart(&mut theirs, size, region);
+    *card = theirs.across();
+    across(restarted)
 }
 
 fn across<T>(answer: Result<T, zlatopysk::Refused>) -> Result<T, Refused> {

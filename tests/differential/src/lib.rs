@@ -7,10 +7,12 @@
 #![forbid(unsafe_code)]
 
 pub mod compare;
+pub mod conversation;
 pub mod demand3;
 pub mod implementation;
 pub mod inputs;
 pub mod listed;
 pub mod random;
+pub mod recovery;
 pub mod run;
 pub mod wrong;

@@ -9,7 +9,7 @@ use crate::random::Random;
 use crate::run::Function;
 use reference::record::encode;
 use reference::refusal::{LONGEST_SCRIPT, LONGEST_TEXT};
-use reference::{Card, Mode, SensorRecord};
+use reference::{checksum, packet, Card, Mode, SensorRecord};
 
 /// The symbols of which all short texts are made.
 const SYMBOLS: &[u8; 8] = b"@0bq \r\nG";
@@ -28,6 +28,15 @@ const LIMIT_SCRIPTS: usize = 5;
 const ONE_BYTE: usize = 3 * 256;
 const TWO_BYTES: usize = 3 * 256 * 4;
 const HEADERS: usize = 512 * 2;
+const MODES: [Mode; 3] = [Mode::Application, Mode::Locked, Mode::Unlocked];
+const SMALL_SIZES: [usize; 2] = [4_096, 8_192];
+/// Every mode with every small size.
+const SMALL_WORLDS: usize = MODES.len() * SMALL_SIZES.len();
+/// The places of a full write and of an erase of one or two blocks, and one or two beyond.
+const WRITE_PLACES: usize = 258;
+const ERASE_PLACES: usize = 4;
+/// The expected checksums before a restart: the region's, none of its bits, and each bit wrong.
+const SUMS: usize = 18;
 
 /// How many listed cases a function has.
 pub fn count(function: Function) -> usize {
@@ -40,6 +49,8 @@ pub fn count(function: Function) -> usize {
         Function::ReadRecord => 2 * 512 + 64 * 256 + 130,
         Function::WriteRecord => field_count() * 256 + 130,
         Function::TotalPower => 65_536,
+        Function::Cut => SMALL_WORLDS * (WRITE_PLACES + ERASE_PLACES),
+        Function::Restart => SMALL_WORLDS * SUMS,
     }
 }
 
@@ -65,6 +76,8 @@ pub fn try_listed(
         Function::ReadRecord => compare::read_record(sides, &record_bytes(index))?,
         Function::WriteRecord => write_record(sides, index)?,
         Function::TotalPower => compare::total_power(sides, index as u16, !(index as u16) | 255)?,
+        Function::Cut => cut(sides, index)?,
+        Function::Restart => restart(sides, index)?,
     };
     Ok(vec![class])
 }
@@ -132,7 +145,6 @@ fn limit_check(index: usize) -> CheckInput {
 
 /// Short messages in every mode, and three-byte heads of packets.
 fn call(sides: Sides, index: usize) -> Result<Class, Difference> {
-    const MODES: [Mode; 3] = [Mode::Application, Mode::Locked, Mode::Unlocked];
     let (mode, message) = if index < ONE_BYTE {
         (MODES[index / 256], vec![index as u8])
     } else if index < ONE_BYTE + TWO_BYTES {
@@ -147,18 +159,57 @@ fn call(sides: Sides, index: usize) -> Result<Class, Difference> {
         (MODES[1 + index % 2], vec![0x80, low, high])
     };
     let mut random = Random::new(index as u64);
-    let mut world = World {
+    let mut world = world(&mut random, mode, 4_096);
+    compare::call(sides, &mut world, &message, &random.bytes(64))
+}
+
+fn world(random: &mut Random, mode: Mode, size: usize) -> World {
+    World {
         card: Card {
             mode,
             expected: 0x1234,
             version: [6, 2, 11],
-            record: records::any(&mut random),
+            record: records::any(random),
         },
-        size: 4_096,
-        region: random.bytes(4_096),
+        size,
+        region: random.bytes(size),
         password: random.bytes(256),
+    }
+}
+
+fn small_world(random: &mut Random, index: usize) -> World {
+    let size = SMALL_SIZES[index % SMALL_SIZES.len()];
+    world(random, MODES[index / SMALL_SIZES.len()], size)
+}
+
+/// Every place of a full write at the region's end and of an erase.
+fn cut(sides: Sides, index: usize) -> Result<Class, Difference> {
+    let mut random = Random::new(index as u64);
+    let mut world = small_world(&mut random, index % SMALL_WORLDS);
+    let place = index / SMALL_WORLDS;
+    if place >= WRITE_PLACES {
+        let erase = packet::erase();
+        return compare::cut(sides, &mut world, &erase, place - WRITE_PLACES);
+    }
+    let address = world.size - 256;
+    let mut data = random.bytes(256);
+    for (new, old) in data.iter_mut().zip(&world.region[address..]) {
+        *new &= old;
+    }
+    let write = packet::write(address as u32, &data);
+    compare::cut(sides, &mut world, &write, place)
+}
+
+/// The region's checksum expected, and others that are like it.
+fn restart(sides: Sides, index: usize) -> Result<Class, Difference> {
+    let mut world = small_world(&mut Random::new(index as u64), index % SMALL_WORLDS);
+    let sum = checksum(&world.region);
+    world.card.expected = match index / SMALL_WORLDS {
+        0 => sum,
+        1 => !sum,
+        bit => sum ^ (1 << (bit - 2)),
     };
-    compare::call(sides, &mut world, &message, &random.bytes(64))
+    compare::restart(sides, &mut world)
 }
 
 /// Each bit over zeros and over a sound record, each byte with each value, and each length.

@@ -1,10 +1,12 @@
 //! Cases by function and number: listed ones, and random ones each from its own seed.
 
 use crate::compare::{self, Class, Difference, Sides};
+use crate::conversation;
 use crate::demand3;
-use crate::inputs::{lent, messages, records, scripts, texts};
+use crate::inputs::{lent, records, scripts, texts};
 use crate::listed;
 use crate::random::{mix, Random};
+use crate::recovery;
 use std::collections::BTreeMap;
 use std::fmt::{self, Display, Formatter};
 
@@ -19,10 +21,12 @@ pub enum Function {
     ReadRecord,
     WriteRecord,
     TotalPower,
+    Cut,
+    Restart,
 }
 
 impl Function {
-    pub const ALL: [Function; 8] = [
+    pub const ALL: [Function; 10] = [
         Function::Checksum,
         Function::Call,
         Function::Read,
@@ -31,6 +35,8 @@ impl Function {
         Function::ReadRecord,
         Function::WriteRecord,
         Function::TotalPower,
+        Function::Cut,
+        Function::Restart,
     ];
 
     pub fn name(self) -> &'static str {
@@ -43,6 +49,8 @@ impl Function {
             Function::ReadRecord => "read_record",
             Function::WriteRecord => "write_record",
             Function::TotalPower => "total_power",
+            Function::Cut => "cut",
+            Function::Restart => "restart",
         }
     }
 
@@ -61,6 +69,8 @@ impl Function {
             Function::ReadRecord => 200_000,
             Function::WriteRecord => 200_000,
             Function::TotalPower => 2_000_000,
+            Function::Cut => 12_000,
+            Function::Restart => 8_000,
         }
     }
 
@@ -68,13 +78,15 @@ impl Function {
     pub fn part(self) -> u32 {
         match self {
             Function::Checksum => 5,
-            Function::Call => 20,
-            Function::Read => 18,
-            Function::Plan => 15,
-            Function::Check => 34,
+            Function::Call => 16,
+            Function::Read => 16,
+            Function::Plan => 13,
+            Function::Check => 32,
             Function::ReadRecord => 3,
             Function::WriteRecord => 3,
             Function::TotalPower => 2,
+            Function::Cut => 6,
+            Function::Restart => 4,
         }
     }
 
@@ -88,18 +100,22 @@ impl Function {
             Function::Check => &[1, 2, 18, 3, 4, 5, 6, 7, 10, 8, 11, 12],
             Function::ReadRecord => &[17],
             Function::WriteRecord => &[13, 17],
+            Function::Cut => &[1, 2, 21],
+            Function::Restart => &[1],
+        };
+        let others = match self {
+            Function::Call => call_answers(),
+            Function::Cut => vec![Class::CutBefore, Class::CutInside, Class::CutBehind],
+            Function::Restart => vec![Class::UpInApplication, Class::UpLocked],
+            _ => vec![Class::Answered],
         };
         let refusals = refusals.iter().map(|&number| Class::Refusal(number));
-        if self == Function::Call {
-            refusals.chain(call_answers()).collect()
-        } else {
-            refusals.chain([Class::Answered]).collect()
-        }
+        refusals.chain(others).collect()
     }
 }
 
 /// The answers of a call that is not refused.
-fn call_answers() -> impl Iterator<Item = Class> {
+fn call_answers() -> Vec<Class> {
     let bytes = [0x01, 0x51, 0x52, 0x53, 0x54, 0x55].map(Class::Byte);
     let messages = [0x00, 0x01, 0x04, 0x05, 0x07].map(Class::Message);
     let requests = [0x02, 0x03, 0x04, 0x05, 0x0F, 0x20, 0x31, 0x32].map(Class::Request);
@@ -109,6 +125,7 @@ fn call_answers() -> impl Iterator<Item = Class> {
         .chain(messages)
         .chain(requests)
         .chain(others)
+        .collect()
 }
 
 /// One case: from a list, or made from a seed.
@@ -152,10 +169,11 @@ fn try_random(
     function: Function,
     random: &mut Random,
 ) -> Result<Vec<Class>, Difference> {
-    if function == Function::Call {
-        return run_of_calls(sides, random);
-    }
     let class = match function {
+        Function::Call => return conversation::calls(sides, random),
+        Function::Cut | Function::Restart => {
+            return conversation::with_cuts(sides, random, function);
+        }
         Function::Checksum => {
             let length = random.pick(&[0, 1, 2, 7, 64, 261, 4_096, 5_000]);
             let length = random.below(length + 1);
@@ -171,7 +189,6 @@ fn try_random(
         Function::TotalPower => {
             compare::total_power(sides, random.number() as u16, random.number() as u16)?
         }
-        Function::Call => unreachable!("handled above"),
     };
     Ok(vec![class])
 }
@@ -220,32 +237,18 @@ fn planner_output(random: &mut Random, text: &[u8], size: usize) -> Vec<u8> {
     random.bytes(length)
 }
 
-/// The checker, and with small regions demand 3 by the loader's own calls.
+/// The checker, and with small regions demand 3 by the loader's own calls; then, for a script that
+/// passes, what T-07 claims of it.
 fn random_check(sides: Sides, random: &mut Random) -> Result<Class, Difference> {
     let input = scripts::check_input(random);
     let class = compare::check(sides, &input)?;
     if input.size <= 8_192 {
         demand3::holds(sides.left, &input, random)?;
+        if class == Class::Answered {
+            recovery::holds(sides.left, &input, random, recovery::STEPS)?;
+        }
     }
     Ok(class)
-}
-
-/// A run of calls to one card, state and region carried from each to the next.
-fn run_of_calls(sides: Sides, random: &mut Random) -> Result<Vec<Class>, Difference> {
-    let mut world = messages::world(random);
-    let mut classes = Vec::new();
-    let longest = if world.size > 16_384 { 3 } else { 14 };
-    for _ in 0..random.between(1, longest) {
-        messages::change(random, &mut world);
-        let message = messages::message(random, &world);
-        let reply = messages::reply_buffer(random, world.card.mode);
-        if random.once_in(30) {
-            let mut bad = messages::badly_lent(random, &world);
-            classes.push(compare::call(sides, &mut bad, &message, &reply)?);
-        }
-        classes.push(compare::call(sides, &mut world, &message, &reply)?);
-    }
-    Ok(classes)
 }
 
 /// What came of the cases tried so far.

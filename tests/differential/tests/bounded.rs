@@ -2,9 +2,10 @@
 //! reference, and with every deliberately wrong reference, which must be found.
 
 use differential::compare::Sides;
-use differential::implementation::{LIBRARY, REFERENCE};
+use differential::implementation::{Implementation, LIBRARY, REFERENCE};
 use differential::inputs::scripts;
 use differential::random::Random;
+use differential::recovery::{self, Steps};
 use differential::run::{bounded_cases, try_case, Function, Tally};
 use differential::wrong;
 use reference::script::frames;
@@ -73,6 +74,16 @@ fn total_power_agrees() {
     agrees(Function::TotalPower);
 }
 
+#[test]
+fn cut_agrees() {
+    agrees(Function::Cut);
+}
+
+#[test]
+fn restart_agrees() {
+    agrees(Function::Restart);
+}
+
 /// The page's own scripts pass, as demand 3 asks.
 #[test]
 fn scripts_by_the_page_pass() {
@@ -115,6 +126,34 @@ fn every_wrong_reference_is_found() {
     }
     print(&format!(
         "wrong references: {} of {} found",
+        all.len() - missed.len(),
+        all.len()
+    ));
+    assert!(missed.is_empty(), "not found: {missed:?}");
+}
+
+/// The first of the page's own small scripts for which a recovery from cuts fails.
+fn fails_at(side: &Implementation, steps: Steps) -> Option<u64> {
+    (0..500).find(|&index| {
+        let random = &mut Random::new(SEED + index);
+        let input = scripts::by_the_page(random);
+        input.size <= 8_192 && recovery::holds(side, &input, random, steps).is_err()
+    })
+}
+
+/// No step between a cut and the script sent afresh can be left out.
+#[test]
+fn every_wrong_recovery_is_found() {
+    assert_eq!(fails_at(&LIBRARY, recovery::STEPS), None);
+    let all = wrong::recoveries();
+    let mut missed = Vec::new();
+    for wrong in &all {
+        if fails_at(&wrong.side, wrong.steps).is_none() {
+            missed.push(wrong.name);
+        }
+    }
+    print(&format!(
+        "wrong recoveries: {} of {} found",
         all.len() - missed.len(),
         all.len()
     ));

@@ -35,7 +35,7 @@ put-data-requires c κs = search needs
 
 returns : tie.Need-returns
 unfolding bytesOf
-returns c = rw (c .enum-told .given .1) (ap (placed 0) (sym (stored-nothing 0 (now (c .before .before .before .args .out)) (omega arith))))
+returns c = rw (c .enum-told .given .1) (ap (placed 0) (sym (stored-nothing 0 (now (c .before .before .before .args .out)))))
 
 same-length : tie.Need-same-length
 same-length c = search needs

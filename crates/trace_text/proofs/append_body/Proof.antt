@@ -1,10 +1,12 @@
 -- `trace_text::append_body` meets its contract: the tests that led to each answer pick the case.
 -- Assumes nothing.
-use mathlib.Core.Path.{_≡_, sym, _∙_}
+use mathlib.Core.Path.{_≡_, refl, sym, _∙_}
 use mathlib.Core.Bool.{true, false}
+use Prim.Native.Nat.{ℕ, _≤_}
+use native.Mathlib.Omega.{arith}
 use borrow.Author.Tests.{lt-ltb, le-ltb, not-true, not-false, ltb-false}
 use lib.Dec.{ltb}
-use lib.ListN.{length}
+use lib.ListN.{length, replicate, length-replicate}
 use denote.Ref.{now}
 use Rattle.script.specs.Script.{headed}
 use Rattle.script.proofs.Framing.{headed-long}
@@ -22,9 +24,9 @@ same-length c = search needs
 returns : tie.Need-returns
 unfolding bodyOf
 returns c =
-    let e = c .before .before .append-end .ensures in
-    let long : ltb 16384 (length (now (c .before .before .before .before .before .before .before .args .input))) ≡ true = lt-ltb _ _ (c .before .before .before .before .if1 .taken) in
-    rw long e
+    let start = c .before .before .before .before .before .before .before in
+    let long : ltb 16384 (length (now (start .args .input))) ≡ true = lt-ltb _ _ (c .before .before .before .before .if1 .taken) in
+    rw long (c .before .before .append-end .ensures)
 
 is-headed-requires : tie.Need-is-headed-requires
 is-headed-requires c κs = search needs
@@ -38,10 +40,10 @@ same-length-2 c = search needs
 returns-2 : tie.Need-returns-2
 unfolding bodyOf
 returns-2 c =
-    let e = c .before .before .append-end2 .ensures in
-    let bad : headed (now (c .before .before .before .before .before .before .before .before .before .args .input)) ≡ false = sym (c .before .before .before .before .before .is-headed .ensures) ∙ not-true _ (c .before .before .before .before .if2 .taken) in
-    let short : ltb 16384 (length (now (c .before .before .before .before .before .before .before .before .before .args .input))) ≡ false = le-ltb _ _ (c .before .before .before .before .before .before .if1 .left) in
-    rw (short, bad) e
+    let start = c .before .before .before .before .before .before .before .before .before in
+    let bad : headed (now (start .args .input)) ≡ false = sym (c .before .before .before .before .before .is-headed .ensures) ∙ not-true _ (c .before .before .before .before .if2 .taken) in
+    let short : ltb 16384 (length (now (start .args .input))) ≡ false = le-ltb _ _ (c .before .before .before .before .before .before .if1 .left) in
+    rw (short, bad) (c .before .before .append-end2 .ensures)
 
 slice-aggregate-append-packets : tie.Need-slice-aggregate-append-packets
 slice-aggregate-append-packets c = search needs
@@ -49,13 +51,18 @@ slice-aggregate-append-packets c = search needs
 slice-aggregate-append-packets-2 : tie.Need-slice-aggregate-append-packets-2
 slice-aggregate-append-packets-2 c = search needs
 
+slice-aggregate-append-packets-3 : tie.Need-slice-aggregate-append-packets-3
+slice-aggregate-append-packets-3 c = search needs
+
 append-packets-requires : tie.Need-append-packets-requires
 unfolding bodyOf
 append-packets-requires c κs =
-    let good : headed (now (c .before .before .before .before .before .before .before .before .args .input)) ≡ true = sym (c .before .before .before .before .is-headed .ensures) ∙ not-false _ (c .before .before .before .if2 .left) in
-    let short : ltb 16384 (length (now (c .before .before .before .before .before .before .before .before .args .input))) ≡ false = le-ltb _ _ (c .before .before .before .before .before .if1 .left) in
-    let room = rw (short, good) at (c .before .before .before .before .before .before .before .before .pre) in
-    (headed-long (now (c .before .before .before .before .before .before .before .before .args .input)) good, ltb-false _ _ short, room)
+    let start = c .before .before .before .before .before .before .before .before .before in
+    let good : headed (now (start .args .input)) ≡ true = sym (c .before .before .before .before .before .is-headed .ensures) ∙ not-false _ (c .before .before .before .before .if2 .left) in
+    let short : ltb 16384 (length (now (start .args .input))) ≡ false = le-ltb _ _ (c .before .before .before .before .before .before .if1 .left) in
+    let room = rw (short, good) at (start .pre) in
+    let zeros : length (replicate {A = ℕ} 4096 0) ≤ 4096 = rw (length-replicate {A = ℕ} 4096 0) (omega arith) in
+    (headed-long (now (start .args .input)) good, ltb-false _ _ short, zeros, refl, room)
 
 same-length-3 : tie.Need-same-length-3
 same-length-3 c = search needs
@@ -63,9 +70,10 @@ same-length-3 c = search needs
 returns-3 : tie.Need-returns-3
 unfolding bodyOf
 returns-3 c =
-    let good : headed (now (c .before .before .before .before .before .before .before .before .before .before .before .before .args .input)) ≡ true = sym (c .before .before .before .before .before .before .before .before .is-headed .ensures) ∙ not-false _ (c .before .before .before .before .before .before .before .if2 .left) in
-    let short : ltb 16384 (length (now (c .before .before .before .before .before .before .before .before .before .before .before .before .args .input))) ≡ false = le-ltb _ _ (c .before .before .before .before .before .before .before .before .before .if1 .left) in
-    rw (short, good) (c .before .before .before .append-packets .ensures)
+    let start = c .before .before .before .before .before .before .before .before .before .before .before .before .before .before in
+    let good : headed (now (start .args .input)) ≡ true = sym (c .before .before .before .before .before .before .before .before .before .before .is-headed .ensures) ∙ not-false _ (c .before .before .before .before .before .before .before .before .before .if2 .left) in
+    let short : ltb 16384 (length (now (start .args .input))) ≡ false = le-ltb _ _ (c .before .before .before .before .before .before .before .before .before .before .before .if1 .left) in
+    rw (short, good) (c .before .before .before .before .append-packets .ensures)
 
 pub append-body-spec : {M : Type 1} → statement M
 append-body-spec =
@@ -80,6 +88,7 @@ append-body-spec =
     returns-2
     slice-aggregate-append-packets
     slice-aggregate-append-packets-2
+    slice-aggregate-append-packets-3
     append-packets-requires
     same-length-3
     returns-3)

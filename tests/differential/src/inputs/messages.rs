@@ -163,7 +163,7 @@ pub fn sound_packet_for_tail(random: &mut Random) -> Vec<u8> {
 }
 
 /// A write whose data may or may not be written over what is there.
-fn write(random: &mut Random, world: &World) -> Vec<u8> {
+pub fn write(random: &mut Random, world: &World) -> Vec<u8> {
     let length = random.pick(&[1, 1, 2, 4, 16, 100, 255, 256]);
     let address = address(random, world.size, length);
     let mut data = random.bytes(length);

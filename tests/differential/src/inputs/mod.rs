@@ -1,6 +1,7 @@
 //! Generators of inputs, valid and damaged.
 
 pub mod lent;
+pub mod mains;
 pub mod messages;
 pub mod records;
 pub mod scripts;

@@ -1,5 +1,5 @@
-//! Deliberately wrong references, each with one rule of document 01 broken. The comparison must
-//! find every one of them; else it would not find the same fault in the library.
+//! Deliberately wrong references, each with one rule of document 01 or 02 broken. The comparison
+//! must find every one of them; else it would not find the same fault in the library.
 
 use crate::implementation::Implementation;
 use crate::run::Function;
@@ -20,10 +20,13 @@ macro_rules! wrong {
 
 mod calls;
 mod checks;
+mod mains;
 mod numbers;
 mod plans;
 mod records;
 mod texts;
+
+pub use mains::{recoveries, WrongRecovery};
 
 /// A wrong reference, and the function in which it is wrong.
 pub struct Wrong {
@@ -49,6 +52,14 @@ pub fn all() -> Vec<Wrong> {
         plans::refusals(),
         checks::runs(),
         checks::refusals(),
+        mains::writes(),
+        mains::erases(),
+        mains::works(),
+        mains::refusals(),
+        mains::order(),
+        mains::cut_states(),
+        mains::restart_modes(),
+        mains::restart_states(),
     ]
     .into_iter()
     .flatten()
