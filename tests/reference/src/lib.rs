@@ -1,6 +1,6 @@
-//! A plain implementation of document 01 and of T-07 of document 02, written from the papers and
-//! not from the proved code, so that the two can be compared. One module for each subject; each
-//! names the section it follows.
+//! A plain implementation of document 01 and of T-07 and T-08 of document 02, written from the
+//! papers and not from the proved code, so that the two can be compared. One module for each
+//! subject; each names the section it follows.
 
 #![forbid(unsafe_code)]
 

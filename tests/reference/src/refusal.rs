@@ -1,4 +1,5 @@
-//! Document 01, "Refusal numbers", and the limits that the first refusals judge.
+//! Document 01, "Refusal numbers", and the limits that the first refusals judge. Document 02, T-08,
+//! took number 9 from the table: it stays unused, and nothing answers it.
 
 /// A refusal: its number, and its place (0 where the paper names none).
 #[derive(Clone, Copy, Debug, PartialEq, Eq)]
