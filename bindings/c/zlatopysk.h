@@ -19,8 +19,8 @@
 extern "C" {
 #endif
 
-/* An answer: the refusal's number in documents 01 and 02, or 0 for none, which is no refusal's number; the refusal's
-   place, 0 where they name none; and a count. 24 bytes. */
+/* An answer: the refusal's number in documents 01 and 02, or 0 for none, which is no refusal's number (nor is 9, which
+   is unused); the refusal's place, 0 where they name none; and a count. 24 bytes. */
 struct zlatopysk_answer {
     uint64_t refusal, place, count;
 };

@@ -115,7 +115,7 @@ mod library {
     }
 }
 
-/// A refusal of documents 01 and 02: its number, and its place (0 where the papers name none).
+/// A refusal of documents 01 and 02: its number, and its place (0 where the papers name none). Number 9 is unused.
 #[derive(Clone, Copy, Debug, PartialEq, Eq)]
 pub struct Refused {
     pub number: u8,

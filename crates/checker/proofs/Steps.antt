@@ -1,14 +1,11 @@
 -- One packet over both buffers, by what was found of it.
 -- Assumes nothing.
 use mathlib.Core.Path.{_≡_, refl, sym, ap, _∙_}
-use mathlib.Core.Bool.{Bool, true, false, false≢true, not, _&&_}
+use mathlib.Core.Bool.{Bool, true, false, not, _&&_}
 use mathlib.Core.List.{List}
 use Prim.Native.Nat.{ℕ}
 use lib.ListN.{length}
-use Rattle.delivery.specs.Beside.{Beside}
 use Rattle.delivery.specs.Check.{trial, step, stepOf, beginsStart}
-use Rattle.delivery.proofs.Exact.{beside-next}
-use Rattle.delivery.proofs.Runs.{compared}
 use Rattle.firmware_text.specs.Machine.{imageOf}
 use Rattle.loader.specs.Loader.{Outcome, receivedOf, succeededOf}
 use Rattle.loader.specs.declared.Loader.{Loader}
@@ -32,8 +29,7 @@ both-same a b c = go (same a c) refl
     go true e = ap (same b) (same-eq a c e)
     go false e = refl
 
-module _ (password text packet : List ℕ) (first second : Loader) (zeros ones : List ℕ)
-    (sound-text : rulesOf text (length zeros) ≡ sound) (b : Beside (trial first zeros) (trial second ones) second ones)
+module _ (password text packet : List ℕ) (first second : Loader) (zeros ones : List ℕ) (sound-text : rulesOf text (length zeros) ≡ sound)
     (early : Bool) (found : early ≡ (beginsStart packet && not (isPictureOf text zeros && same ones zeros))) where
   -- the picture of the text
   abbrev picture : List ℕ
@@ -57,22 +53,8 @@ module _ (password text packet : List ℕ) (first second : Loader) (zeros ones :
         let kept : z .region ≡ zeros = ap (λ (o : Outcome). o .region) ran ∙ receive-keeps first zeros password packet .region-kept (ap (λ (o : Outcome). succeededOf (o .reply)) (sym ran) ∙ failed) in
         rw (kept, sym early-is ∙ no, ap (λ (o : Outcome). succeededOf (o .reply)) (sym ran) ∙ failed) refl
 
-    module _ (f : Outcome) (ran-too : f ≡ receivedOf second ones password packet) (ok : succeededOf (z .reply) ≡ true) where
-      -- none is refused over 0xFF only
-      pub step-ones : {A : Type 0} → succeededOf (f .reply) ≡ false → A
-      step-ones failed =
-          let okz : succeededOf (receivedOf first zeros password packet .reply) ≡ true = ap (λ (o : Outcome). succeededOf (o .reply)) (sym ran) ∙ ok in
-          let equal : beginsStart packet ≡ true → zeros ≡ ones = λ s. let p = compared (beginsStart packet) zeros ones picture (sym early-is ∙ no) s in p .0 ∙ sym (p .1) in
-          absurd (false≢true (sym failed ∙ ap (λ (o : Outcome). succeededOf (o .reply)) ran-too ∙ beside-next password packet b equal okz .0))
-
-      -- one that is a success in both
-      pub step-both : succeededOf (f .reply) ≡ true → step 0 (trial (z .loader) (z .region)) (trial (f .loader) (f .region)) ≡ stepOf password picture packet (trial first zeros) (trial second ones)
-      unfolding stepOf
-      step-both ok-too =
-          rw (
-            sym early-is ∙ no,
-            ap (λ (o : Outcome). succeededOf (o .reply)) (sym ran) ∙ ok,
-            ap (λ (o : Outcome). succeededOf (o .reply)) (sym ran-too) ∙ ok-too,
-            ran,
-            ran-too,
-          ) refl
+    -- one that is a success over zeros, and what it leaves in the other run
+    pub step-both : (f : Outcome) → f ≡ receivedOf second ones password packet → succeededOf (z .reply) ≡ true
+        → step 0 (trial (z .loader) (z .region)) (trial (f .loader) (f .region)) ≡ stepOf password picture packet (trial first zeros) (trial second ones)
+    unfolding stepOf
+    step-both f ran-too ok = rw (sym early-is ∙ no, ap (λ (o : Outcome). succeededOf (o .reply)) (sym ran) ∙ ok, ran, ran-too) refl

@@ -1,18 +1,15 @@
 -- A walk over a script's packets: what is left to run decides the whole.
 -- Assumes nothing.
-use mathlib.Core.Path.{_≡_, refl, sym, ap, _∙_, subst}
+use mathlib.Core.Path.{_≡_, refl, sym, ap, _∙_}
 use mathlib.Core.Bool.{Bool, true, false, cond}
 use mathlib.Core.List.{List, _∷_}
 use Prim.Native.Nat.{ℕ, _+_, _-_, _≤_, _<_}
 use native.Mathlib.Omega.{arith}
 use borrow.Author.Tests.{ltb-true, ltb-false}
 use lib.Dec.{eqb, ltb}
-use lib.ListN.{length, take, drop, replicate, length-drop, length-replicate}
+use lib.ListN.{length, take, drop, replicate, length-drop}
 use lib.Seq.{drop-drop, length-take-le}
-use Rattle.delivery.specs.Beside.{Beside}
 use Rattle.delivery.specs.Check.{Said, refused, Checked, Trial, trial, locked, Step, step, stepOf, endOf, found, runFrom, runAt, runOf}
-use Rattle.delivery.proofs.Agree.{agree-start}
-use Rattle.delivery.proofs.Exact.{beside-next}
 use Rattle.delivery.proofs.Runs.{step-done, done-step, step-refused, run-next, run-refused, run-started, some-left}
 use Rattle.loader.specs.Loader.{isApplication}
 use Rattle.script.specs.Script.{frameLength, frontOf, framesOf}
@@ -20,33 +17,33 @@ use Rattle.script.proofs.Framing.{frames-end, frames-next, front-cut, part-tail
 
 module _ (password picture : List ℕ) (zeros ones : Trial) (at n : ℕ) (bytes : List ℕ) where
   -- no packet is left
-  run-unpacked : length bytes < frameLength bytes → runAt password picture zeros ones at n (framesOf bytes) ≡ found (endOf (isApplication (zeros .loader .mode)) bytes at) n zeros ones
+  run-unpacked : length bytes < frameLength bytes → runAt (stepOf password picture) zeros ones at n (framesOf bytes) ≡ found (endOf (isApplication (zeros .loader .mode)) bytes at) n zeros ones
   unfolding runFrom
-  run-unpacked cut = ap (runAt password picture zeros ones at n) (frames-end bytes cut)
+  run-unpacked cut = ap (runAt (stepOf password picture) zeros ones at n) (frames-end bytes cut)
 
   -- the firmware started
-  run-over : isApplication (zeros .loader .mode) ≡ true → runAt password picture zeros ones at n (framesOf bytes) ≡ found (endOf true bytes at) n zeros ones
+  run-over : isApplication (zeros .loader .mode) ≡ true → runAt (stepOf password picture) zeros ones at n (framesOf bytes) ≡ found (endOf true bytes at) n zeros ones
   run-over started = go (ltb (length bytes) (frameLength bytes)) refl
     where
-      go : (t : Bool) → ltb (length bytes) (frameLength bytes) ≡ t → runAt password picture zeros ones at n (framesOf bytes) ≡ found (endOf true bytes at) n zeros ones
+      go : (t : Bool) → ltb (length bytes) (frameLength bytes) ≡ t → runAt (stepOf password picture) zeros ones at n (framesOf bytes) ≡ found (endOf true bytes at) n zeros ones
       go true h = run-unpacked (ltb-true _ _ h) ∙ ap (λ (t : Bool). found (endOf t bytes at) n zeros ones) started
       go false h =
           let whole = ltb-false (length bytes) (frameLength bytes) h in
-          ap (runAt password picture zeros ones at n) (frames-next bytes whole)
+          ap (runAt (stepOf password picture) zeros ones at n) (frames-next bytes whole)
           ∙ run-started password picture zeros ones at n _ _ _ started bytes (some-left bytes (λ z. omega (arith, z)))
 
   -- the script ends, or ends inside a packet
-  run-cut : isApplication (zeros .loader .mode) ≡ false → frontOf bytes ≡ 0 → runAt password picture zeros ones at n (framesOf bytes) ≡ found (endOf false bytes at) n zeros ones
+  run-cut : isApplication (zeros .loader .mode) ≡ false → frontOf bytes ≡ 0 → runAt (stepOf password picture) zeros ones at n (framesOf bytes) ≡ found (endOf false bytes at) n zeros ones
   run-cut inloader none = run-unpacked (front-cut bytes none) ∙ ap (λ (t : Bool). found (endOf t bytes at) n zeros ones) inloader
 
   module _ (k : ℕ) (is : k ≡ frameLength bytes) (whole : k ≤ length bytes) (inloader : isApplication (zeros .loader .mode) ≡ false) where
-    framed : runAt password picture zeros ones at n (framesOf bytes)
-        ≡ runFrom password picture zeros ones at n (framesOf (drop k bytes) .rest) (take k bytes ∷ framesOf (drop k bytes) .packets)
-    framed = ap (runAt password picture zeros ones at n) (rw is (frames-next bytes (rw is at whole)))
+    framed : runAt (stepOf password picture) zeros ones at n (framesOf bytes)
+        ≡ runFrom (stepOf password picture) zeros ones at n (framesOf (drop k bytes) .rest) (take k bytes ∷ framesOf (drop k bytes) .packets)
+    framed = ap (runAt (stepOf password picture) zeros ones at n) (rw is (frames-next bytes (rw is at whole)))
 
     -- a packet that is refused
     run-faulty : (fault : ℕ) (z o : Trial) → eqb fault 0 ≡ false → step fault z o ≡ stepOf password picture (take k bytes) zeros ones
-        → (runAt password picture zeros ones at n (framesOf bytes) ≡ found (refused fault at) n z o)
+        → (runAt (stepOf password picture) zeros ones at n (framesOf bytes) ≡ found (refused fault at) n z o)
     run-faulty fault z o some e =
         let same = ap (λ (s : Step). s .fault) (sym e) in
         let kept = e ∙ step-refused password picture (take k bytes) zeros ones (ap (λ (f : ℕ). eqb f 0) same ∙ some) in
@@ -55,33 +52,27 @@ module _ (password picture : List ℕ) (zeros ones : Trial) (at n : ℕ) (bytes 
 
     -- one that is a success in both runs
     run-on : (z o : Trial) → step 0 z o ≡ stepOf password picture (take k bytes) zeros ones
-        → runAt password picture zeros ones at n (framesOf bytes) ≡ runAt password picture z o (at + k) (n + 1) (framesOf (drop k bytes))
+        → runAt (stepOf password picture) zeros ones at n (framesOf bytes) ≡ runAt (stepOf password picture) z o (at + k) (n + 1) (framesOf (drop k bytes))
     run-on z o e =
         let done = step-done password picture (take k bytes) zeros ones (ap (λ (s : Step). s .fault) (sym e)) in
         let next = e ∙ done-step password picture (take k bytes) zeros ones done in
         framed ∙ run-next password picture (take k bytes) zeros ones at n _ _ inloader done
-        ∙ ap (λ (s : Step). runAt password picture (s .zeros) (s .ones) (at + length (take k bytes)) (n + 1) (framesOf (drop k bytes))) (sym next)
-        ∙ ap (λ (l : ℕ). runAt password picture z o (at + l) (n + 1) (framesOf (drop k bytes))) (length-take-le k bytes whole)
+        ∙ ap (λ (s : Step). runAt (stepOf password picture) (s .zeros) (s .ones) (at + length (take k bytes)) (n + 1) (framesOf (drop k bytes))) (sym next)
+        ∙ ap (λ (l : ℕ). runAt (stepOf password picture) z o (at + l) (n + 1) (framesOf (drop k bytes))) (length-take-le k bytes whole)
 
 -- a packet that is run next is the one at the front, and the firmware has not started
 pub ahead-front : (started : Bool) (k front : ℕ) → k ≡ cond started 0 front → (k ≡ 0 → ⊥) → (started ≡ false) × (k ≡ front)
 ahead-front true k front e some = absurd (some e)
 ahead-front false k front e some = (refl, e)
 
--- a walk that has come to a place: what is left to run gives the whole, and the two runs are side by side
+-- a walk that has come to a place: what is left to run gives the whole
 pub record Reaches (whole : Checked) (password picture script : List ℕ) (zeros ones : Trial) (at n : ℕ) : Type 0 where
-  pub left : runAt password picture zeros ones at n (framesOf (drop at script)) ≡ whole
-  pub beside : Beside zeros ones (ones .loader) (ones .region)
-
-pub reach-start : (script picture password : List ℕ) (expected n : ℕ)
-    → Reaches (runOf script picture password expected n) password picture script (trial (locked expected) (replicate n 0x00)) (trial (locked expected) (replicate n 0xFF)) 5 0
-reach-start script picture password expected n =
-    record { left = refl; beside = record { ones-state = refl; other-state = refl; agree = agree-start n (replicate n 0xFF) (length-replicate n 0xFF) } }
+  pub left : runAt (stepOf password picture) zeros ones at n (framesOf (drop at script)) ≡ whole
 
 -- the walk's beginning, by what the runs begin with
 pub reach-begin : (script picture password : List ℕ) (expected n : ℕ) (zeros ones : Trial) → zeros ≡ trial (locked expected) (replicate n 0x00) → ones ≡ trial (locked expected) (replicate n 0xFF)
     → Reaches (runOf script picture password expected n) password picture script zeros ones 5 0
-reach-begin script picture password expected n zeros ones z o = rw (z, o) (reach-start script picture password expected n)
+reach-begin script picture password expected n zeros ones z o = rw (z, o) (record { left = refl })
 
 module _ (whole : Checked) (password picture script : List ℕ) (zeros ones : Trial) (at n : ℕ) (r : Reaches whole password picture script zeros ones at n) where
   -- the firmware started
@@ -113,16 +104,10 @@ module _ (whole : Checked) (password picture script : List ℕ) (zeros ones : Tr
     -- one packet more
     pub reach-next : step 0 z o ≡ stepOf password picture (take k (drop at script)) zeros ones → Reaches whole password picture script z o (at + k) (n + 1)
     reach-next e =
-        let packet = take k (drop at script) in
         let inside : k ≤ length (drop at script) = rw (length-drop at script) (omega arith) in
-        let done = step-done password picture packet zeros ones (ap (λ (s : Step). s .fault) (sym e)) in
-        let next = e ∙ done-step password picture packet zeros ones done in
         record {
           left =
-              ap (λ (l : List ℕ). runAt password picture z o (at + k) (n + 1) (framesOf l)) (sym (drop-drop k at script))
+              ap (λ (l : List ℕ). runAt (stepOf password picture) z o (at + k) (n + 1) (framesOf l)) (sym (drop-drop k at script))
               ∙ sym (run-on password picture zeros ones at n (drop at script) k is inside inloader z o e)
               ∙ r .left;
-          beside =
-              subst (λ (s : Step). Beside (s .zeros) (s .ones) (s .ones .loader) (s .ones .region)) (sym next)
-              (beside-next password packet (r .beside) (λ b. done .pictures b .0 ∙ sym (done .pictures b .1)) (done .ok-zeros) .1);
         }

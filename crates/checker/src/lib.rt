@@ -1,8 +1,9 @@
 // The script checker: whether a script puts the image of a firmware text into every card, whatever its
 // flash held before. It runs the loader that `card::call` runs on two trial buffers, one filled with 0x00
 // and one with 0xFF, packet by packet, and compares both with the picture where the firmware is to start.
-// A packet that is a success over zeros is one over 0xFF too, so refusal 9 is never given; it is judged in
-// its place all the same. `delivery` says what is answered, and what a pass is worth.
+// In such a run a packet that the comparison lets pass, and that is a success over zeros, is one over 0xFF
+// too: that reply is not looked at, and document 01's number 9 is unused (T-08). `delivery` says what is
+// answered, and what a pass is worth.
 use loader::Loader;
 use loader::Mode;
 use refusal::Refusal;
@@ -18,7 +19,6 @@ ghost use Rattle.text_image.specs.Picture.{pictureOf};
 ghost use Rattle.text_image.specs.Rules.{rulesOf, sound};
 ghost use Rattle.ti_txt.specs.Answers.{isPictureOf};
 ghost use Rattle.delivery.specs.Check.{trial, locked, beginsStart, stepOf, endOf, runOf, judgedOf, checkOf};
-ghost use Rattle.delivery.specs.Beside.{Beside};
 ghost use Rattle.delivery.specs.Demand.{Limits, Upholds};
 ghost use Rattle.checker.specs.Answers.{said, answered, stepped};
 
@@ -86,6 +86,7 @@ fn starts_too_early(packet: &[u8], text: &[u8], zeros: &[u8], ones: &[u8]) -> bo
 }
 
 // Runs one packet over both buffers, the zeros first: where it is refused there, the other is not touched.
+// The reply over 0xFF decides nothing (T-08), and what the packet leaves there is kept all the same.
 fn run_packet(
     packet: &[u8],
     text: &[u8],
@@ -95,7 +96,7 @@ fn run_packet(
     second: Loader,
     ones: &mut [u8],
 ) -> Step
-    requires { ⌜ (rulesOf (now text) (length (now zeros)) ≡ sound) × Beside (trial first (now zeros)) (trial second (now ones)) second (now ones) ⌝ }
+    requires { ⌜ rulesOf (now text) (length (now zeros)) ≡ sound ⌝ }
     ensures { λ r. ⌜ stepped r first second (now (zeros .exit)) (now (ones .exit)) ≡ stepOf (now (password .entry)) (pictureOf (length (now (zeros .entry))) (imageOf (now (text .entry)))) (now (packet .entry)) (trial first (now (zeros .entry))) (trial second (now (ones .entry))) ⌝ }
 {
     if starts_too_early(packet, text, zeros, ones) {
@@ -108,11 +109,7 @@ fn run_packet(
         return Step::Refused(Refusal::RefusedOverZeros);
     }
     let over_ones = loader::receive(second, ones, password, packet);
-    let ones_reply = over_ones.reply;
     let ones_loader = over_ones.loader;
-    if !loader::succeeded(ones_reply) {
-        return Step::Refused(Refusal::RefusedOverOnes);
-    }
     Step::Ran {
         one: zeros_loader,
         other: ones_loader,

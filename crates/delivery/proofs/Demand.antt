@@ -25,7 +25,7 @@ use Rattle.text_image.specs.Picture.{placed, pictureOf}
 use Rattle.text_image.specs.Rules.{sound, refused, rulesOf}
 use Rattle.text_image.proofs.Pictures.{length-placed}
 use Rattle.text_image.proofs.Sounds.{sound-parts, sound-image}
-use Rattle.delivery.specs.Check.{passed, Checked, Trial, trial, locked, judgedOf, unlessRefused, runFrom, runOf, checkOf}
+use Rattle.delivery.specs.Check.{passed, Checked, Trial, trial, locked, stepOf, judgedOf, unlessRefused, runFrom, runOf, checkOf}
 use Rattle.delivery.specs.Check as check
 use Rattle.delivery.specs.Sending.{packetsIn, callsOf, Delivers, Entered, Roomy, Works}
 use Rattle.delivery.specs.Beside.{Beside}
@@ -84,7 +84,7 @@ module _ (script password : List ℕ) (expected n : ℕ) (good : goodSize n ≡ 
 
   works-run : Works script picture password expected n → runOf script picture password expected n .answer ≡ passed
   works-run w =
-      subst (λ (rest : List ℕ). runFrom password picture (over 0x00) (over 0xFF) 5 0 rest (packetsIn script) .answer ≡ passed) (sym (w .is-script .used-up))
+      subst (λ (rest : List ℕ). runFrom (stepOf password picture) (over 0x00) (over 0xFF) 5 0 rest (packetsIn script) .answer ≡ passed) (sym (w .is-script .used-up))
       (sent-passed n good password wide nine nine-roomy picture (packetsIn script) 5 0 0 (over 0x00) (over 0xFF) refl refl (length-replicate n 0x00) (length-replicate n 0xFF)
       (w .delivers (cardOf (locked expected)) (replicate n 0x00) (entered 0x00 (omega arith)) nine nine-roomy)
       (w .delivers (cardOf (locked expected)) (replicate n 0xFF) (entered 0xFF (omega arith)) nine nine-roomy))

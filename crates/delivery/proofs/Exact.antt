@@ -4,7 +4,7 @@ use mathlib.Core.Path.{_≡_, refl, sym, ap, ap₂, _∙_, subst}
 use mathlib.Core.Bool.{true, false, true≢false, false≢true}
 use mathlib.Core.List.{List, [], _∷_, cons≢nil}
 use Prim.Native.Nat.{ℕ, suc, _+_}
-use lib.ListN.{length, replicate}
+use lib.ListN.{length, replicate, length-replicate}
 use Rattle.card.specs.Call.{withLoader}
 use Rattle.card.specs.declared.Card.{Card}
 use Rattle.loader.specs.Loader.{isApplication, isUnlocked, receivedOf}
@@ -12,10 +12,10 @@ use Rattle.loader.specs.declared.Loader.{Loader}
 use Rattle.loader.proofs.Laws.{receive-keeps}
 use Rattle.region.specs.Size.{goodSize}
 use Rattle.sensor_values.specs.Reading.{recordOf}
-use Rattle.delivery.specs.Check.{passed, Checked, Trial, ranOn, behind, beginsStart, runFrom}
+use Rattle.delivery.specs.Check.{passed, Checked, Trial, trial, locked, ranOn, behind, beginsStart, stepOf, runFrom}
 use Rattle.delivery.specs.Sending.{Roomy}
 use Rattle.delivery.specs.Beside.{Beside}
-use Rattle.delivery.proofs.Agree.{agree-ones, agree-equal, length-other}
+use Rattle.delivery.proofs.Agree.{agree-start, agree-ones, agree-equal, length-other}
 use Rattle.delivery.proofs.Step.{Ok, received-alike, Kind, start, other, kind}
 use Rattle.delivery.proofs.Runs.{Done, run-next, passed-done, passed-over, passed-not, run-over}
 use Rattle.delivery.proofs.Sent.{Sent, First, and-false, send-last, send-next, sent-first}
@@ -30,6 +30,20 @@ beside-next password packet {zeros} b equal ok =
     let any = received-alike (zeros .loader) (b .agree) password packet equal ok in
     rw (b .ones-state, b .other-state) (any .ok, record { ones-state = ones .state; other-state = any .state; agree = any .agree })
 
+-- the two trial runs side by side, whatever any other does
+abbrev pub Both : (zeros ones : Trial) → Type 0
+Both zeros ones = Beside zeros ones (ones .loader) (ones .region)
+
+-- so they are at their beginning
+pub both-start : (expected n : ℕ) → Both (trial (locked expected) (replicate n 0x00)) (trial (locked expected) (replicate n 0xFF))
+both-start expected n = record { ones-state = refl; other-state = refl; agree = agree-start n (replicate n 0xFF) (length-replicate n 0xFF) }
+
+-- and behind a packet that is not refused, which is a success over 0xFF too
+pub both-next : (password picture packet : List ℕ) {zeros ones : Trial} → Both zeros ones → Done password picture packet zeros ones
+    → Ok (ranOn password packet ones) × Both (behind password packet zeros) (behind password packet ones)
+both-next password picture packet b done =
+    beside-next password packet b (λ s. done .pictures s .0 ∙ sym (done .pictures s .1)) (done .ok-zeros)
+
 -- some card with a loader's part
 abbrev pub cardOf : Loader → Card
 cardOf loader = record { loader = loader; version = record { xx = 0; yy = 0; zz = 0 }; «record» = recordOf (replicate 64 0) }
@@ -42,7 +56,7 @@ module _ (n : ℕ) (good : goodSize n ≡ true) (password : List ℕ) (wide : le
   -- a script that passes works on any region
   pub passed-sent : (packets : List (List ℕ)) (at k i : ℕ) (zeros ones : Trial) (card : Card) (region rest : List ℕ)
       → isApplication (zeros .loader .mode) ≡ false → length (zeros .region) ≡ n → Beside zeros ones (card .loader) region
-      → runFrom password picture zeros ones at k rest packets .answer ≡ passed → (rest ≡ []) × Puts i card region packets
+      → runFrom (stepOf password picture) zeros ones at k rest packets .answer ≡ passed → (rest ≡ []) × Puts i card region packets
   passed-sent [] at k i zeros ones card region rest inloader sized b e = absurd (passed-not password picture zeros ones at k rest inloader e)
   passed-sent (packet ∷ packets) at k i zeros ones card region rest inloader sized b e =
       by-kind (λ stays. passed-sent packets (at + length packet) (k + 1) (suc i) (behind password packet zeros) (behind password packet ones)
@@ -60,7 +74,7 @@ module _ (n : ℕ) (good : goodSize n ≡ true) (password : List ℕ) (wide : le
           × Beside (behind password packet zeros) (behind password packet ones) (receivedOf (card .loader) region password packet .loader) (receivedOf (card .loader) region password packet .region)
       next = beside-next password packet b equal (done .ok-zeros)
 
-      later : runFrom password picture (behind password packet zeros) (behind password packet ones) (at + length packet) (k + 1) rest packets .answer ≡ passed
+      later : runFrom (stepOf password picture) (behind password packet zeros) (behind password packet ones) (at + length packet) (k + 1) rest packets .answer ≡ passed
       later = sym (ap (λ (c : Checked). c .answer) (run-next password picture packet zeros ones at k rest packets inloader done)) ∙ e
 
       mode : isApplication (card .loader .mode) ≡ false
@@ -87,7 +101,7 @@ module _ (n : ℕ) (good : goodSize n ≡ true) (password : List ℕ) (wide : le
   pub sent-passed : (packets : List (List ℕ)) (at k i : ℕ) (zeros ones : Trial)
       → isApplication (zeros .loader .mode) ≡ false → isApplication (ones .loader .mode) ≡ false → length (zeros .region) ≡ n → length (ones .region) ≡ n
       → Puts i (cardOf (zeros .loader)) (zeros .region) packets → Puts i (cardOf (ones .loader)) (ones .region) packets
-      → runFrom password picture zeros ones at k [] packets .answer ≡ passed
+      → runFrom (stepOf password picture) zeros ones at k [] packets .answer ≡ passed
   sent-passed [] at k i zeros ones inz ino sz so pz po = absurd (pz .some-packet refl)
   sent-passed (packet ∷ packets) at k i zeros ones inz ino sz so pz po =
       by-kind packets (sent-passed packets (at + length packet) (k + 1) (suc i) (behind password packet zeros) (behind password packet ones))
@@ -100,13 +114,13 @@ module _ (n : ℕ) (good : goodSize n ≡ true) (password : List ℕ) (wide : le
           → length (behind password packet zeros .region) ≡ n → length (behind password packet ones .region) ≡ n
           → Puts (suc i) (cardOf (behind password packet zeros .loader)) (behind password packet zeros .region) packets
           → Puts (suc i) (cardOf (behind password packet ones .loader)) (behind password packet ones .region) packets
-          → runFrom password picture (behind password packet zeros) (behind password packet ones) (at + length packet) (k + 1) [] packets .answer ≡ passed)
+          → runFrom (stepOf password picture) (behind password packet zeros) (behind password packet ones) (at + length packet) (k + 1) [] packets .answer ≡ passed)
           → First n good password wide buffer roomy picture i (cardOf (zeros .loader)) (zeros .region) packet inz sz packets
           → First n good password wide buffer roomy picture i (cardOf (ones .loader)) (ones .region) packet ino so packets
           → Kind (zeros .loader) (zeros .region) packet (ranOn password packet zeros) → Kind (ones .loader) (ones .region) packet (ranOn password packet ones)
-          → runFrom password picture zeros ones at k [] (packet ∷ packets) .answer ≡ passed
+          → runFrom (stepOf password picture) zeros ones at k [] (packet ∷ packets) .answer ≡ passed
       by-kind [] more z o (start begins unlocked started kept) (start begins′ unlocked′ started′ kept′) =
-          let done : Done password picture packet zeros ones = record { pictures = λ s. (sym kept ∙ z .holds, sym kept′ ∙ o .holds); ok-zeros = z .ok; ok-ones = o .ok } in
+          let done : Done password picture packet zeros ones = record { pictures = λ s. (sym kept ∙ z .holds, sym kept′ ∙ o .holds); ok-zeros = z .ok } in
           ap (λ (c : Checked). c .answer) (run-next password picture packet zeros ones at k [] [] inz done)
           ∙ run-over password picture (behind password packet zeros) (behind password packet ones) (at + length packet) (k + 1) [] started refl
       by-kind (q ∷ packets) more z o (start begins unlocked started kept) (start begins′ unlocked′ started′ kept′) =
@@ -117,7 +131,7 @@ module _ (n : ℕ) (good : goodSize n ≡ true) (password : List ℕ) (wide : le
       by-kind [] more z o (other stays never) (other stays′ never′) = absurd (false≢true (sym (and-false (isUnlocked (zeros .loader .mode)) stays) ∙ z .last-starts))
       by-kind (q ∷ packets) more z o (other stays never) (other stays′ never′) =
           let done : Done password picture packet zeros ones =
-          record { pictures = λ s. absurd (true≢false (sym s ∙ never (z .ok))); ok-zeros = z .ok; ok-ones = o .ok } in
+          record { pictures = λ s. absurd (true≢false (sym s ∙ never (z .ok))); ok-zeros = z .ok } in
           ap (λ (c : Checked). c .answer) (run-next password picture packet zeros ones at k [] (q ∷ packets) inz done)
           ∙ more stays stays′
           (receive-keeps (zeros .loader) (zeros .region) password packet .long ∙ sz) (receive-keeps (ones .loader) (ones .region) password packet .long ∙ so)

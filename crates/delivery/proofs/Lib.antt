@@ -8,3 +8,6 @@ pub mod Cores
 pub mod Page
 pub mod Demand
 pub mod Counts
+pub mod Apart
+pub mod Accepted
+pub mod Unused

@@ -12,7 +12,8 @@ use Rattle.loader.specs.Loader.{isApplication}
 use Rattle.region.specs.Same.{same}
 use Rattle.region.proofs.Sames.{same-eq, same-true}
 use Rattle.test_laws.proofs.Tests.{both, on-cond}
-use Rattle.delivery.specs.Check.{Said, passed, refused, Checked, Trial, Step, step, stepOf, endOf, found, ranOn, succeedsOn, behind, beginsStart, isEmpty, runFrom}
+use Rattle.delivery.specs.Check.{Said, passed, refused, Checked, Trial, Step, step, stepOf, endOf, found, isEmpty, runFrom}
+use Rattle.delivery.specs.Check.{ranOn, succeedsOn, behind, beginsStart, startsTooEarly}
 use Rattle.delivery.proofs.Step.{Ok}
 
 -- a refusal is no pass
@@ -33,11 +34,10 @@ pub some-left : (l : List ℕ) → (length l ≡ 0 → ⊥) → isEmpty l ≡ fa
 some-left [] some = absurd (some refl)
 some-left (x ∷ l) some = refl
 
--- a packet that is not refused: both buffers are the picture where it begins a start, and it is a success in both runs
+-- a packet that is not refused: both buffers are the picture where it begins a start, and it is a success over zeros
 pub record Done (password picture packet : List ℕ) (zeros ones : Trial) : Type 0 where
   pub pictures : beginsStart packet ≡ true → (zeros .region ≡ picture) × (ones .region ≡ picture)
   pub ok-zeros : Ok (ranOn password packet zeros)
-  pub ok-ones : Ok (ranOn password packet ones)
 
 -- the comparison that refuses no packet
 pub compared : (begins : Bool) (z f picture : List ℕ) → begins && not (same z picture && same f picture) ≡ false → begins ≡ true → (z ≡ picture) × (f ≡ picture)
@@ -55,14 +55,13 @@ module _ (password picture packet : List ℕ) (zeros ones : Trial) where
   unfolding stepOf
   step-done =
       let P : Step → Type 0 = λ s. s .fault ≡ 0 → Done password picture packet zeros ones in
-      on-cond P (beginsStart packet && not (same (zeros .region) picture && same (ones .region) picture)) _ _ (λ _ e. absurd (omega arith))
+      on-cond P (startsTooEarly picture packet zeros ones) _ _ (λ _ e. absurd (omega arith))
       (λ compare. on-cond P (not (succeedsOn password packet zeros)) _ _ (λ _ e. absurd (omega arith))
-      (λ okz. on-cond P (not (succeedsOn password packet ones)) _ _ (λ _ e. absurd (omega arith))
-      (λ okf e. record { pictures = compared (beginsStart packet) (zeros .region) (ones .region) picture compare; ok-zeros = not-false _ okz; ok-ones = not-false _ okf })))
+      (λ ok e. record { pictures = compared (beginsStart packet) (zeros .region) (ones .region) picture compare; ok-zeros = not-false _ ok }))
 
   pub done-step : Done password picture packet zeros ones → stepOf password picture packet zeros ones ≡ step 0 (behind password packet zeros) (behind password packet ones)
   unfolding stepOf
-  done-step d = rw (compares (beginsStart packet) (zeros .region) (ones .region) picture (d .pictures), d .ok-zeros, d .ok-ones, stepOf) refl
+  done-step d = rw (compares (beginsStart packet) (zeros .region) (ones .region) picture (d .pictures), d .ok-zeros, stepOf) refl
 
   -- one that is refused leaves both runs as they were
   pub step-refused : eqb (stepOf password picture packet zeros ones .fault) 0 ≡ false
@@ -70,26 +69,25 @@ module _ (password picture packet : List ℕ) (zeros ones : Trial) where
   unfolding stepOf
   step-refused =
       let P : Step → Type 0 = λ s. eqb (s .fault) 0 ≡ false → s ≡ step (s .fault) zeros ones in
-      on-cond P (beginsStart packet && not (same (zeros .region) picture && same (ones .region) picture)) _ _ (λ _ e. refl)
-      (λ _. on-cond P (not (succeedsOn password packet zeros)) _ _ (λ _ e. refl)
-      (λ _. on-cond P (not (succeedsOn password packet ones)) _ _ (λ _ e. refl) (λ _ e. absurd (true≢false e))))
+      on-cond P (startsTooEarly picture packet zeros ones) _ _ (λ _ e. refl)
+      (λ _. on-cond P (not (succeedsOn password packet zeros)) _ _ (λ _ e. refl) (λ _ e. absurd (true≢false e)))
 
   module _ (at n : ℕ) (rest : List ℕ) (packets : List (List ℕ)) (inloader : isApplication (zeros .loader .mode) ≡ false) where
     -- a packet that is not refused, and those behind it
     pub run-next : Done password picture packet zeros ones
-        → runFrom password picture zeros ones at n rest (packet ∷ packets)
-        ≡ runFrom password picture (behind password packet zeros) (behind password packet ones) (at + length packet) (n + 1) rest packets
+        → runFrom (stepOf password picture) zeros ones at n rest (packet ∷ packets)
+        ≡ runFrom (stepOf password picture) (behind password packet zeros) (behind password packet ones) (at + length packet) (n + 1) rest packets
     unfolding runFrom
     run-next d = rw (inloader, done-step d, runFrom) refl
 
     -- a refused one
     pub run-refused : (fault : ℕ) → stepOf password picture packet zeros ones .fault ≡ fault → eqb fault 0 ≡ false
-        → runFrom password picture zeros ones at n rest (packet ∷ packets) ≡ found (refused fault at) n zeros ones
+        → runFrom (stepOf password picture) zeros ones at n rest (packet ∷ packets) ≡ found (refused fault at) n zeros ones
     unfolding runFrom
     run-refused fault e some = rw (inloader, e, some, runFrom) refl
 
     -- where there is a pass, the packet was not refused
-    pub passed-done : runFrom password picture zeros ones at n rest (packet ∷ packets) .answer ≡ passed → Done password picture packet zeros ones
+    pub passed-done : runFrom (stepOf password picture) zeros ones at n rest (packet ∷ packets) .answer ≡ passed → Done password picture packet zeros ones
     passed-done e = go (eqb (stepOf password picture packet zeros ones .fault) 0) refl
       where
         go : (t : Bool) → eqb (stepOf password picture packet zeros ones .fault) 0 ≡ t → Done password picture packet zeros ones
@@ -98,12 +96,12 @@ module _ (password picture packet : List ℕ) (zeros ones : Trial) where
 
 module _ (password picture : List ℕ) (zeros ones : Trial) (at n : ℕ) (rest : List ℕ) where
   -- the end of a script that has started the firmware
-  pub run-over : isApplication (zeros .loader .mode) ≡ true → rest ≡ [] → runFrom password picture zeros ones at n rest [] .answer ≡ passed
+  pub run-over : isApplication (zeros .loader .mode) ≡ true → rest ≡ [] → runFrom (stepOf password picture) zeros ones at n rest [] .answer ≡ passed
   unfolding runFrom endOf
   run-over started none = rw (started, none, runFrom, endOf) refl
 
   -- before that there is no end that passes
-  pub passed-not : isApplication (zeros .loader .mode) ≡ false → runFrom password picture zeros ones at n rest [] .answer ≡ passed → ⊥
+  pub passed-not : isApplication (zeros .loader .mode) ≡ false → runFrom (stepOf password picture) zeros ones at n rest [] .answer ≡ passed → ⊥
   unfolding runFrom endOf
   passed-not inloader e = go (isEmpty rest) (rw inloader at e)
     where
@@ -112,7 +110,7 @@ module _ (password picture : List ℕ) (zeros ones : Trial) (at n : ℕ) (rest :
       go false e = no-pass 7 at e
 
   -- and behind it only the end passes
-  pub passed-over : (packets : List (List ℕ)) → isApplication (zeros .loader .mode) ≡ true → runFrom password picture zeros ones at n rest packets .answer ≡ passed
+  pub passed-over : (packets : List (List ℕ)) → isApplication (zeros .loader .mode) ≡ true → runFrom (stepOf password picture) zeros ones at n rest packets .answer ≡ passed
       → (packets ≡ []) × (rest ≡ [])
   unfolding runFrom endOf
   passed-over [] started e = (refl, go rest (rw started at e))
@@ -124,6 +122,6 @@ module _ (password picture : List ℕ) (zeros ones : Trial) (at n : ℕ) (rest :
 
   -- a packet behind the start
   pub run-started : (packet : List ℕ) (packets : List (List ℕ)) → isApplication (zeros .loader .mode) ≡ true → (bytes : List ℕ) → isEmpty bytes ≡ false
-      → runFrom password picture zeros ones at n rest (packet ∷ packets) ≡ found (endOf true bytes at) n zeros ones
+      → runFrom (stepOf password picture) zeros ones at n rest (packet ∷ packets) ≡ found (endOf true bytes at) n zeros ones
   unfolding runFrom endOf
   run-started packet packets started bytes some = rw (started, some, runFrom, endOf) refl

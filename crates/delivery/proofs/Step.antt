@@ -31,7 +31,7 @@ Ok o = succeededOf (o .reply) ≡ true
 -- ---- a success over zeros
 
 -- the command is a start
-abbrev isStart : Command → Bool
+abbrev pub isStart : Command → Bool
 isStart Password = false
 isStart Erase = false
 isStart Write = false
@@ -40,7 +40,7 @@ isStart Start = true
 isStart Unknown = false
 
 -- a start begins with its code
-start-code : (core : List ℕ) (c : Command) → RowOf c core → isStart c ≡ true → getD core 0 0 ≡ 0x27
+pub start-code : (core : List ℕ) (c : Command) → RowOf c core → isStart c ≡ true → getD core 0 0 ≡ 0x27
 start-code core Password row e = absurd (false≢true e)
 start-code core Erase row e = absurd (false≢true e)
 start-code core Write row e = absurd (false≢true e)

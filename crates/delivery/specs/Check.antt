@@ -22,7 +22,7 @@ pub data Said : Type 0 where
   passed : Said
   refused : (number place : ℕ) → Said
 
--- what the checker answers, the number of packets that succeeded in both runs, and the two trial buffers then
+-- what the checker answers, the number of packets that succeeded in both runs (`CountsRight`), and the two trial buffers then
 pub record Checked : Type 0 where
   pub answer : Said
   pub packets : ℕ
@@ -72,20 +72,25 @@ pub record Step : Type 0 where
 abbrev pub step : ℕ → Trial → Trial → Step
 step fault zeros ones = record { fault = fault; zeros = zeros; ones = ones }
 
--- a packet in both trial runs: before one whose core begins with 0x27 is run, both buffers are compared with the picture
-unfoldable pub stepOf : List ℕ → List ℕ → List ℕ → Trial → Trial → Step
+-- the picture test: the packet's core begins with 0x27, and a buffer is not the picture
+abbrev pub startsTooEarly : (picture packet : List ℕ) (zeros ones : Trial) → Bool
+startsTooEarly picture packet zeros ones = beginsStart packet && not (same (zeros .region) picture && same (ones .region) picture)
+
+-- a packet in both trial runs: 10 by the picture test, then 8 where it is refused over zeros; otherwise both runs go on
+-- in a run from locked it is then a success over 0xFF too, so document 01's next test, 9, is not made (T-08, `Accepted.antt`)
+unfoldable pub stepOf : (password picture packet : List ℕ) (zeros ones : Trial) → Step
 stepOf password picture packet zeros ones =
-    cond (beginsStart packet && not (same (zeros .region) picture && same (ones .region) picture)) (step 10 zeros ones)
+    cond (startsTooEarly picture packet zeros ones) (step 10 zeros ones)
     (cond (not (succeedsOn password packet zeros)) (step 8 zeros ones)
-    (cond (not (succeedsOn password packet ones)) (step 9 zeros ones)
-    (step 0 (behind password packet zeros) (behind password packet ones))))
+    (step 0 (behind password packet zeros) (behind password packet ones)))
 
 -- nothing is left
 abbrev pub isEmpty : {A : Type 0} → List A → Bool
 isEmpty [] = true
 isEmpty (x ∷ rest) = false
 
--- what is said at a place where no packet is run any more: pass where the firmware has started and nothing is left, 11 for any further byte; 12 at the end of a script that has not started it, 7 inside a packet
+-- what is said at a place where no packet is run any more: pass where the firmware has started and nothing is left, 11 for any
+-- further byte; 12 at the end of a script that has not started it, 7 inside a packet
 unfoldable pub endOf : Bool → List ℕ → ℕ → Said
 endOf started rest at =
     cond started
@@ -96,31 +101,39 @@ endOf started rest at =
 abbrev pub found : Said → ℕ → Trial → Trial → Checked
 found answer n zeros ones = checked answer n (zeros .region) (ones .region)
 
--- the packets that are left, from a place on, after n that succeeded in both runs; behind them is what the framing left
-unfoldable pub runFrom : List ℕ → List ℕ → Trial → Trial → ℕ → ℕ → List ℕ → List (List ℕ) → Checked
-runFrom password picture zeros ones at n rest [] = found (endOf (isApplication (zeros .loader .mode)) rest at) n zeros ones
-runFrom password picture zeros ones at n rest (packet ∷ packets) =
-    let s : Step = stepOf password picture packet zeros ones in
+-- a rule for one packet in both trial runs, as `stepOf` with a password and a picture
+abbrev pub PacketRule : Type 0
+PacketRule = (packet : List ℕ) (zeros ones : Trial) → Step
+
+-- the packets that are left, each judged by a rule, from a place on, after n that it did not refuse; behind them is what the framing left
+unfoldable pub runFrom : PacketRule → (zeros ones : Trial) (at n : ℕ) (rest : List ℕ) (packets : List (List ℕ)) → Checked
+runFrom rule zeros ones at n rest [] = found (endOf (isApplication (zeros .loader .mode)) rest at) n zeros ones
+runFrom rule zeros ones at n rest (packet ∷ packets) =
+    let s : Step = rule packet zeros ones in
     cond (isApplication (zeros .loader .mode)) (found (refused 11 at) n zeros ones)
     (cond (eqb (s .fault) 0)
-    (runFrom password picture (s .zeros) (s .ones) (at + length packet) (n + 1) rest packets)
+    (runFrom rule (s .zeros) (s .ones) (at + length packet) (n + 1) rest packets)
     (found (refused (s .fault) at) n zeros ones))
 
 -- a framing from a place on
-abbrev pub runAt : List ℕ → List ℕ → Trial → Trial → ℕ → ℕ → Frames → Checked
-runAt password picture zeros ones at n f = runFrom password picture zeros ones at n (f .rest) (f .packets)
+abbrev pub runAt : PacketRule → (zeros ones : Trial) (at n : ℕ) → Frames → Checked
+runAt rule zeros ones at n f = runFrom rule zeros ones at n (f .rest) (f .packets)
 
--- a script's packets, which begin behind its head, run from locked over n bytes 0x00 and over n bytes 0xFF
-abbrev pub runOf : List ℕ → List ℕ → List ℕ → ℕ → ℕ → Checked
-runOf script picture password expected n =
-    runAt password picture (trial (locked expected) (replicate n 0x00)) (trial (locked expected) (replicate n 0xFF)) 5 0 (framesOf (drop 5 script))
+-- a script's packets, which begin behind its head, run by a rule from locked over n bytes 0x00 and over n bytes 0xFF
+abbrev pub runBy : PacketRule → (script : List ℕ) (expected n : ℕ) → Checked
+runBy rule script expected n =
+    runAt rule (trial (locked expected) (replicate n 0x00)) (trial (locked expected) (replicate n 0xFF)) 5 0 (framesOf (drop 5 script))
+
+-- the same, by the checker's own rule
+abbrev pub runOf : (script picture password : List ℕ) (expected n : ℕ) → Checked
+runOf script picture password expected n = runBy (stepOf password picture) script expected n
 
 -- the refusal of a text that is not sound, else what comes next
 abbrev pub ifSound : Judgement → Said → Said
 ifSound rules.sound next = next
 ifSound (rules.refused number place) next = refused number place
 
--- what is judged before any packet, with trial buffers of two lengths: refusals 1, 2, 18, those of the text, which are 18, 3, 4 and 5, and 6
+-- what is judged before any packet, with trial buffers of two lengths: 1, 2, 18, those of the text, which are 18, 3, 4 and 5, and 6
 unfoldable pub judgedOf : List ℕ → List ℕ → List ℕ → ℕ → ℕ → ℕ → Said
 judgedOf script text password n zeros ones =
     cond (not (goodSize n && (eqb zeros n && eqb ones n))) (refused 1 0)
@@ -134,7 +147,7 @@ abbrev pub unlessRefused : Said → List ℕ → List ℕ → Checked → Checke
 unlessRefused passed zeros ones next = next
 unlessRefused (refused number place) zeros ones next = checked (refused number place) 0 zeros ones
 
--- the checker: a script, a firmware text, a password, an expected checksum, the size of the region, and the two trial buffers as they are lent
+-- the checker: a script, a firmware text, a password, an expected checksum, the region's size, and the two trial buffers as they are lent
 unfoldable pub checkOf : List ℕ → List ℕ → List ℕ → ℕ → ℕ → List ℕ → List ℕ → Checked
 checkOf script text password expected n zeros ones =
     unlessRefused (judgedOf script text password n (length zeros) (length ones)) zeros ones

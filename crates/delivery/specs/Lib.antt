@@ -3,3 +3,4 @@ pub mod Sending
 pub mod Demand
 pub mod Beside
 pub mod Meaning
+pub mod Accepted

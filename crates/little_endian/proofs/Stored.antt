@@ -54,6 +54,14 @@ stored-nothing at old = go (leb (at + 0) (length old)) refl
     go true e = stored-between at [] old (leb-true _ _ e) ∙ rw add-zero (take-append-drop at old)
     go false e = stored-not at [] old (leb-false _ _ e)
 
+-- bytes stored where they stand already change nothing
+pub stored-same : (at : ℕ) (new old : List ℕ) → at + length new ≤ length old → take (length new) (drop at old) ≡ new → storedAt at new old ≡ old
+stored-same at new old fits same =
+    stored-between at new old fits
+    ∙ ap₂ (λ (x y : List ℕ). take at old ++ (x ++ y)) (sym same) (sym (drop-drop (length new) at old))
+    ∙ ap (λ (x : List ℕ). take at old ++ x) (take-append-drop (length new) (drop at old))
+    ∙ take-append-drop at old
+
 -- bytes stored right behind others are stored with them
 pub stored-joined : (at : ℕ) (x y old : List ℕ) → at + (length x + length y) ≤ length old
     → storedAt (at + length x) y (storedAt at x old) ≡ storedAt at (x ++ y) old

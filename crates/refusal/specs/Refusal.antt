@@ -1,4 +1,5 @@
 -- The numbers of the refusals (document 01, "Refusal numbers"), in the order of its table, then those of document 02 (T-07).
+-- Number 9 is out of the table, and stays unused (T-08).
 -- Assumes nothing.
 use Prim.Native.Nat.{ℕ}
 use Rattle.refusal.specs.declared.Refusal.{Refusal}
@@ -15,7 +16,6 @@ use Rattle.refusal.specs.declared.Refusal.the-variants.{
   PacketCut,
   PictureDiffers,
   RefusedOverZeros,
-  RefusedOverOnes,
   BytesAfterStart,
   NotStarted,
   RequestUnknown,
@@ -38,7 +38,6 @@ numberOf ScriptHead = 6
 numberOf PacketCut = 7
 numberOf PictureDiffers = 10
 numberOf RefusedOverZeros = 8
-numberOf RefusedOverOnes = 9
 numberOf BytesAfterStart = 11
 numberOf NotStarted = 12
 numberOf RequestUnknown = 15

@@ -1,6 +1,6 @@
-// The refusals: those of document 01, one case for each row of its table and in the table's order, which
-// is the order in which they are judged; then those of document 02, which says where each is judged. Every
-// answer that refuses names one of these.
+// The refusals: those of document 01, one case for each row of its table but number 9, which is out of it
+// and stays unused (T-08), and in the table's order, which is the order in which they are judged; then those
+// of document 02, which says where each is judged. Every answer that refuses names one of these.
 ghost use mathlib.Core.Path.{_≡_};
 ghost use Rattle.refusal.specs.Refusal.{numberOf};
 
@@ -29,8 +29,6 @@ pub enum Refusal {
     PictureDiffers,
     // A packet is refused over zeros.
     RefusedOverZeros,
-    // A packet is refused over 0xFF only.
-    RefusedOverOnes,
     // Bytes follow after the firmware started.
     BytesAfterStart,
     // The script ends and the firmware has not started.
@@ -62,7 +60,6 @@ pub fn number(refusal: Refusal) -> u8
         Refusal::PacketCut => 7,
         Refusal::PictureDiffers => 10,
         Refusal::RefusedOverZeros => 8,
-        Refusal::RefusedOverOnes => 9,
         Refusal::BytesAfterStart => 11,
         Refusal::NotStarted => 12,
         Refusal::RequestUnknown => 15,

@@ -56,7 +56,6 @@ fn located(script: &[u8], text: &[u8], refusal: Refusal, at: usize, packets: usi
     match refusal {
         Refusal::PacketCut
         | Refusal::RefusedOverZeros
-        | Refusal::RefusedOverOnes
         | Refusal::PictureDiffers
         | Refusal::BytesAfterStart => in_script(script, at, packets).print(),
         Refusal::NotStarted => cause::place(at).text(b": the end of the script").print(),

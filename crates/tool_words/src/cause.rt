@@ -4,7 +4,7 @@ use refusal::Refusal;
 use report::Line;
 
 // A line with the cause of a refusal after it, by its number: the words of document 01's table, a line for each number
-// from 1 on.
+// from 1 on. Number 9 is no refusal's: it is out of the table, and the lines behind it keep their places.
 fn cause(line: Line, number: usize) -> Line {
     line.text(line_of(
         b"no refusal
@@ -16,7 +16,7 @@ the address of a data byte was given before
 no script: its mark or version is wrong
 the script ends inside a packet
 a packet is refused over zeros
-a packet is refused over 0xFF only
+no refusal
 the region is not the image's picture at a start
 bytes follow after the firmware started
 the script ends and the firmware has not started

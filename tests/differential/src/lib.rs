@@ -6,6 +6,7 @@
 
 #![forbid(unsafe_code)]
 
+pub mod accepted;
 pub mod compare;
 pub mod conversation;
 pub mod demand3;

@@ -1,9 +1,10 @@
 //! Listed cases: small sets taken whole, and lengths at the limits.
 
+use crate::accepted;
 use crate::compare::{self, Class, Difference, Sides};
 use crate::inputs::messages::World;
 use crate::inputs::records::{fields, Field};
-use crate::inputs::scripts::{long_script, CheckInput, Ending};
+use crate::inputs::scripts::{long_script, short_script, CheckInput, Ending, SHORT_SCRIPTS};
 use crate::inputs::{records, texts};
 use crate::random::Random;
 use crate::run::Function;
@@ -45,7 +46,7 @@ pub fn count(function: Function) -> usize {
         Function::Call => ONE_BYTE + TWO_BYTES + HEADERS,
         Function::Read => LIMIT_TEXTS + PREFIXES.len() * SHORT_TEXTS,
         Function::Plan => LIMIT_TEXTS,
-        Function::Check => LIMIT_SCRIPTS + LIMIT_TEXTS,
+        Function::Check => SHORT_SCRIPTS + LIMIT_SCRIPTS + LIMIT_TEXTS,
         Function::ReadRecord => 2 * 512 + 64 * 256 + 130,
         Function::WriteRecord => field_count() * 256 + 130,
         Function::TotalPower => 65_536,
@@ -72,7 +73,7 @@ pub fn try_listed(
             let out = Random::new(index as u64).bytes(300);
             compare::plan(sides, &limit_text(index), &[7; 256], 0, 4_096, &out)?
         }
-        Function::Check => compare::check(sides, &limit_check(index))?,
+        Function::Check => check(sides, index)?,
         Function::ReadRecord => compare::read_record(sides, &record_bytes(index))?,
         Function::WriteRecord => write_record(sides, index)?,
         Function::TotalPower => compare::total_power(sides, index as u16, !(index as u16) | 255)?,
@@ -121,6 +122,16 @@ fn limit_text(index: usize) -> Vec<u8> {
         _ => b"@0\n00 01\n@1\n01\nq\n",
     };
     texts::lengthened(end, LONGEST_TEXT + index / 4)
+}
+
+/// Short scripts, with what T-08 claims of them; then those at a limit.
+fn check(sides: Sides, index: usize) -> Result<Class, Difference> {
+    if index >= SHORT_SCRIPTS {
+        return compare::check(sides, &limit_check(index - SHORT_SCRIPTS));
+    }
+    let input = short_script(index);
+    accepted::holds(sides.left, &input, accepted::PREMISES)?;
+    compare::check(sides, &input)
 }
 
 /// Scripts at the limit of their length, and a short one with each of the longest texts.

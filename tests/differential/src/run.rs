@@ -1,5 +1,6 @@
 //! Cases by function and number: listed ones, and random ones each from its own seed.
 
+use crate::accepted;
 use crate::compare::{self, Class, Difference, Sides};
 use crate::conversation;
 use crate::demand3;
@@ -90,7 +91,7 @@ impl Function {
         }
     }
 
-    /// Every kind of answer that the function can give, but refusal 9, which cannot be had.
+    /// Every kind of answer that the function can give. Number 9 is unused since T-08.
     pub fn answers(self) -> Vec<Class> {
         let refusals: &[u8] = match self {
             Function::Checksum | Function::TotalPower => &[],
@@ -237,13 +238,14 @@ fn planner_output(random: &mut Random, text: &[u8], size: usize) -> Vec<u8> {
     random.bytes(length)
 }
 
-/// The checker, and with small regions demand 3 by the loader's own calls; then, for a script that
-/// passes, what T-07 claims of it.
+/// The checker, and with small regions demand 3 and what T-08 claims by the loader's own calls;
+/// then, for a script that passes, what T-07 claims of it.
 fn random_check(sides: Sides, random: &mut Random) -> Result<Class, Difference> {
     let input = scripts::check_input(random);
     let class = compare::check(sides, &input)?;
     if input.size <= 8_192 {
         demand3::holds(sides.left, &input, random)?;
+        accepted::holds(sides.left, &input, accepted::PREMISES)?;
         if class == Class::Answered {
             recovery::holds(sides.left, &input, random, recovery::STEPS)?;
         }

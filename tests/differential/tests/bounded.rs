@@ -1,6 +1,7 @@
 //! The bounded run with a fixed seed: for every public function the library is compared with the
 //! reference, and with every deliberately wrong reference, which must be found.
 
+use differential::accepted::{self, Premises};
 use differential::compare::Sides;
 use differential::implementation::{Implementation, LIBRARY, REFERENCE};
 use differential::inputs::scripts;
@@ -154,6 +155,33 @@ fn every_wrong_recovery_is_found() {
     }
     print(&format!(
         "wrong recoveries: {} of {} found",
+        all.len() - missed.len(),
+        all.len()
+    ));
+    assert!(missed.is_empty(), "not found: {missed:?}");
+}
+
+/// The first of the short scripts for which T-08's claim fails.
+fn parts_at(side: &Implementation, premises: Premises) -> Option<usize> {
+    (0..scripts::SHORT_SCRIPTS).find(|&index| {
+        let input = scripts::short_script(index);
+        accepted::holds(side, &input, premises).is_err()
+    })
+}
+
+/// T-08's claim needs the loader's own rules, the picture test, and that no start comes before.
+#[test]
+fn every_wrong_acceptance_is_found() {
+    assert_eq!(parts_at(&LIBRARY, accepted::PREMISES), None);
+    let all = wrong::acceptances();
+    let mut missed = Vec::new();
+    for wrong in &all {
+        if parts_at(&wrong.side, wrong.premises).is_none() {
+            missed.push(wrong.name);
+        }
+    }
+    print(&format!(
+        "wrong acceptances: {} of {} found",
         all.len() - missed.len(),
         all.len()
     ));

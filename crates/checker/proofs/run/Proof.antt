@@ -96,7 +96,7 @@ part-run-packet-end c = let s = c .before .before .before .before .before .befor
 run-packet-requires : tie.Need-run-packet-requires Inv-loop μ-loop
 run-packet-requires c κs = let s = c .before .before .before .before .before .before .before .before .before .before .before .before .before .before .before in
     let l = c .before .before .before .before .before .before .before .loop in
-    (ap (rulesOf (now (s .args .text))) (l .inv .2) ∙ s .pre .2, l .inv .4 .beside)
+    ap (rulesOf (now (s .args .text))) (l .inv .2) ∙ s .pre .2
 
 enum-known-why : tie.Need-enum-known-why Inv-loop μ-loop
 enum-known-why c = search needs

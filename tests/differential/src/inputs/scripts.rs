@@ -392,6 +392,51 @@ pub fn by_the_page(random: &mut Random) -> CheckInput {
     }
 }
 
+/// How many kinds of packets the short scripts are made of.
+const KINDS: usize = 7;
+/// The lists of at most three of them.
+const LISTS: usize = 1 + KINDS + KINDS * KINDS + KINDS * KINDS * KINDS;
+/// Each list with three expected checksums: the image's, that of zeros and that of 0xFF.
+pub const SHORT_SCRIPTS: usize = 3 * LISTS;
+
+/// The short script of this index: the password, and at most three packets of all kinds, writes
+/// that meet known and untouched bytes among them.
+pub fn short_script(index: usize) -> CheckInput {
+    let size = 4_096;
+    let text = b"@10\n01 02\nq".to_vec();
+    let password = vec![0xFF; 256];
+    let goal = goal(&text, size, &password);
+    let kinds: [Vec<u8>; KINDS] = [
+        packet::erase(),
+        packet::write(0x10, &[0, 0]),
+        packet::write(0x10, &[1, 2]),
+        packet::write(0x11, &[2, 0]),
+        packet::write(0x0F, &[0xFF, 0]),
+        packet::range_checksum(0x0F, 4),
+        packet::start(0x10),
+    ];
+    let mut packets = vec![packet::password(&password)];
+    let (mut list, mut length) = (index / 3, 0);
+    while list >= KINDS.pow(length) {
+        list -= KINDS.pow(length);
+        length += 1;
+    }
+    packets.extend((0..length).map(|place| kinds[list / KINDS.pow(place) % KINDS].clone()));
+    CheckInput {
+        script: Parts::of(packets).bytes(),
+        text,
+        password,
+        expected: match index % 3 {
+            0 => checksum(&goal.picture),
+            1 => checksum(&vec![0x00; size]),
+            _ => checksum(&vec![0xFF; size]),
+        },
+        size,
+        zeros: vec![0x5A; size],
+        ones: vec![0xA5; size],
+    }
+}
+
 /// How a script of a given length ends.
 #[derive(Clone, Copy, Debug)]
 pub enum Ending {

@@ -32,6 +32,14 @@ impl Ran<'_> {
         self.checked.answer = Err(Refused::at(number, place));
     }
 
+    /// Passes, the packet that was refused counted as a start that succeeded.
+    fn pass_by_one_more(&mut self) {
+        self.checked = Checked {
+            answer: Ok(()),
+            packets: self.checked.packets + 1,
+        };
+    }
+
     /// The whole frame at this place.
     fn frame(&self, place: usize) -> Option<&[u8]> {
         let rest = &self.script[place..];
@@ -61,8 +69,18 @@ impl Ran<'_> {
             password: self.password,
             region: self.zeros,
         };
-        let rest = &self.script[place..];
-        packet::frame(rest).is_some_and(|length| loader.judge(&rest[..length]).is_success())
+        succeeds(&loader, &self.script[place..])
+    }
+
+    /// Whether it would over 0xFF.
+    fn succeeds_over_ones(&mut self, place: usize) -> bool {
+        let loader = Loader {
+            mode: self.mode(),
+            expected: self.expected,
+            password: self.password,
+            region: self.ones,
+        };
+        succeeds(&loader, &self.script[place..])
     }
 
     /// Runs the frame at this place over 0xFF alone.
@@ -78,6 +96,11 @@ impl Ran<'_> {
             loader.apply(loader.judge(&rest[..length]));
         }
     }
+}
+
+/// Whether the frame that these bytes begin with would succeed.
+fn succeeds(loader: &Loader, rest: &[u8]) -> bool {
+    packet::frame(rest).is_some_and(|length| loader.judge(&rest[..length]).is_success())
 }
 
 /// The reference's checker, its answer altered.
@@ -98,8 +121,8 @@ pub fn runs() -> Vec<Wrong> {
     vec![
         wrong_check!("only the zeros compared", |ran| {
             if let Some(place) = ran.refused(10) {
-                if *ran.zeros == ran.picture() {
-                    ran.refuse(9, place);
+                if *ran.zeros == ran.picture() && ran.succeeds_over_zeros(place) {
+                    ran.pass_by_one_more();
                 }
             }
         }),
@@ -113,10 +136,7 @@ pub fn runs() -> Vec<Wrong> {
         wrong_check!("picture not compared", |ran| {
             if let Some(place) = ran.refused(10) {
                 if ran.succeeds_over_zeros(place) {
-                    ran.checked = Checked {
-                        answer: Ok(()),
-                        packets: ran.checked.packets + 1,
-                    };
+                    ran.pass_by_one_more();
                 }
             }
         }),
@@ -162,6 +182,16 @@ pub fn runs() -> Vec<Wrong> {
                 ran.run_over_ones(place);
             }
         }),
+        wrong_check!("nothing run over 0xFF", |ran| {
+            if ran.checked.packets > 0 {
+                ran.ones.fill(0xFF);
+            }
+        }),
+        wrong_check!("zeros run twice", |ran| {
+            if ran.checked.packets > 0 {
+                ran.ones.copy_from_slice(ran.zeros);
+            }
+        }),
         wrong_check!("buffers swapped", |ran| {
             if ran.zeros.len() == ran.ones.len() {
                 ran.zeros.swap_with_slice(ran.ones);
@@ -178,6 +208,27 @@ pub fn runs() -> Vec<Wrong> {
 
 pub fn refusals() -> Vec<Wrong> {
     vec![
+        wrong_check!("9 where both runs refuse", |ran| {
+            if let Some(place) = ran.refused(8) {
+                if !ran.succeeds_over_ones(place) {
+                    ran.refuse(9, place);
+                }
+            }
+        }),
+        wrong_check!("9 where the 0xFF is not the picture", |ran| {
+            if let Some(place) = ran.refused(10) {
+                if *ran.zeros == ran.picture() {
+                    ran.refuse(9, place);
+                }
+            }
+        }),
+        wrong_check!("8 only where both runs refuse", |ran| {
+            if let Some(place) = ran.refused(8) {
+                if ran.succeeds_over_ones(place) {
+                    ran.refuse(12, ran.script.len());
+                }
+            }
+        }),
         wrong_check!("7 before 11", |ran| {
             if let Some(place) = ran.refused(11) {
                 if ran.frame(place).is_none() {
@@ -218,10 +269,7 @@ pub fn refusals() -> Vec<Wrong> {
                     .frame(place)
                     .filter(|frame| frame.len() + place == ran.script.len());
                 if last.is_some_and(|frame| frame[3] == packet::START) {
-                    ran.checked = Checked {
-                        answer: Ok(()),
-                        packets: ran.checked.packets + 1,
-                    };
+                    ran.pass_by_one_more();
                 }
             }
         }),

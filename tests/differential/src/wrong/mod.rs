@@ -18,6 +18,7 @@ macro_rules! wrong {
     };
 }
 
+mod acceptances;
 mod calls;
 mod checks;
 mod mains;
@@ -26,6 +27,7 @@ mod plans;
 mod records;
 mod texts;
 
+pub use acceptances::{acceptances, WrongAcceptance};
 pub use mains::{recoveries, WrongRecovery};
 
 /// A wrong reference, and the function in which it is wrong.
