@@ -17,6 +17,18 @@ use Rattle.delivery.specs.Check.{found, refused, runFrom, judgedOf, unle
 use Rattle.delivery.proofs.Exact.{Both, both-start, both-next}
 use Rattle.delivery.proofs.Runs.{compared, step-done, done-step}
 
+-- what the rule with 9 gives to a packet that the picture test lets pass: 8 where it is refused over zeros, whatever it gets over
+-- 0xFF; 9 where it is refused over 0xFF only
+module _ (password picture packet : List ℕ) (zeros ones : Trial) (tested : startsTooEarly picture packet zeros ones ≡ false) where
+  pub eight-due : succeedsOn password packet zeros ≡ false → stepWithNine password picture packet zeros ones ≡ step 8 zeros ones
+  unfolding stepWithNine
+  eight-due failed = rw (tested, failed) refl
+
+  pub nine-due : succeedsOn password packet zeros ≡ true → succeedsOn password packet ones ≡ false
+      → stepWithNine password picture packet zeros ones ≡ step 9 zeros ones
+  unfolding stepWithNine
+  nine-due ok failed = rw (tested, ok, failed) refl
+
 -- a third test that never holds where the two before it do not
 third-idle : {A : Type 0} (first second third : Bool) (x y z w : A) → (first ≡ false → second ≡ false → third ≡ false)
     → cond first x (cond second y (cond third z w)) ≡ cond first x (cond second y w)
@@ -64,13 +76,6 @@ module _ (password picture : List ℕ) where
       ∙ ap (cond (isApplication (zeros .loader .mode)) over)
       (then-alike (eqb (s .fault) 0) _ _ _
       (λ accepted. runs-alike packets (s .zeros) (s .ones) (at + length packet) (n + 1) rest (still-both packet zeros ones b accepted)))
-
--- the rule with 9 gives it, where two runs are not side by side: to a packet that the picture test lets pass, refused over 0xFF only
-pub nine-due : (password picture packet : List ℕ) (zeros ones : Trial) → startsTooEarly picture packet zeros ones ≡ false
-    → succeedsOn password packet zeros ≡ true → succeedsOn password packet ones ≡ false
-    → stepWithNine password picture packet zeros ones ≡ step 9 zeros ones
-unfolding stepWithNine
-nine-due password picture packet zeros ones tested ok failed = rw (tested, ok, failed) refl
 
 pub no-answer-changed : NoAnswerChanged
 unfolding checkWithNine checkOf

@@ -4,11 +4,12 @@
 //! regions are the picture.
 
 use crate::compare::Difference;
+use crate::demand3::entered;
 use crate::implementation::Implementation;
 use crate::inputs::scripts::CheckInput;
 use reference::checker::is_start;
 use reference::script::frames;
-use reference::{Card, Mode, SensorRecord};
+use reference::Card;
 
 /// Where the claim is made.
 #[derive(Clone, Copy, Debug)]
@@ -65,12 +66,7 @@ struct Entered {
 impl Entered {
     fn over(byte: u8, input: &CheckInput) -> Entered {
         Entered {
-            card: Card {
-                mode: Mode::Locked,
-                expected: input.expected,
-                version: [0; 3],
-                record: SensorRecord::default(),
-            },
+            card: entered(input.expected),
             region: vec![byte; input.size],
         }
     }

@@ -58,12 +58,7 @@ fn succeeds(side: &Implementation, input: &CheckInput, mut region: Vec<u8>) -> b
     };
     let mut picture = vec![0; input.size];
     draw(&segments, &mut picture);
-    let mut card = Card {
-        mode: Mode::Locked,
-        expected: input.expected,
-        version: [0; 3],
-        record: SensorRecord::default(),
-    };
+    let mut card = entered(input.expected);
     let mut starts = Vec::new();
     for message in messages {
         let before = card.mode;
@@ -83,4 +78,14 @@ fn succeeds(side: &Implementation, input: &CheckInput, mut region: Vec<u8>) -> b
     }
     let last_and_no_other = starts.iter().filter(|&&start| start).count() == 1;
     last_and_no_other && starts.last() == Some(&true) && region == picture
+}
+
+/// A card whose loader was freshly entered.
+pub fn entered(expected: u16) -> Card {
+    Card {
+        mode: Mode::Locked,
+        expected,
+        version: [0; 3],
+        record: SensorRecord::default(),
+    }
 }

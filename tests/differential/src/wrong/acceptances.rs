@@ -1,5 +1,6 @@
 //! What T-08 claims, of wrong loaders, or with a premise left out.
 
+use super::address;
 use crate::accepted::{Premises, PREMISES};
 use crate::implementation::{Implementation, REFERENCE};
 use reference::packet;
@@ -15,11 +16,7 @@ pub struct WrongAcceptance {
 fn written(message: &[u8]) -> Option<(u32, Vec<u8>)> {
     let core = packet::core(message).ok()?;
     let write = core[0] == packet::WRITE && core.len() > 5;
-    write.then(|| (address(core), core[5..].to_vec()))
-}
-
-fn address(core: &[u8]) -> u32 {
-    u32::from_le_bytes([core[1], core[2], core[3], core[4]])
+    write.then(|| (address(core) as u32, core[5..].to_vec()))
 }
 
 fn invert(bytes: &mut [u8]) {

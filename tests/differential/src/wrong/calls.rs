@@ -1,6 +1,6 @@
 //! Wrong calls: the reference's answer altered after it, or its input before.
 
-use super::Wrong;
+use super::{address, Wrong};
 use crate::implementation::{Implementation, REFERENCE};
 use crate::run::Function;
 use reference::{packet, record};
@@ -59,10 +59,6 @@ impl Called<'_> {
     fn is_request(&self, code: u8) -> bool {
         self.before.mode == Mode::Application && self.message == [code]
     }
-}
-
-fn address(core: &[u8]) -> usize {
-    u32::from_le_bytes([core[1], core[2], core[3], core[4]]) as usize
 }
 
 /// The reference's call, altered where it is not refused.

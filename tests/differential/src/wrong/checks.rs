@@ -61,46 +61,41 @@ impl Ran<'_> {
         }
     }
 
-    /// Whether the frame at this place would succeed over the zeros.
-    fn succeeds_over_zeros(&mut self, place: usize) -> bool {
-        let loader = Loader {
+    /// The loader that the packets so far left, over zeros or over 0xFF.
+    fn loader(&mut self, run: Run) -> Loader<'_> {
+        Loader {
             mode: self.mode(),
             expected: self.expected,
             password: self.password,
-            region: self.zeros,
-        };
-        succeeds(&loader, &self.script[place..])
+            region: match run {
+                Run::Zeros => self.zeros,
+                Run::Ones => self.ones,
+            },
+        }
     }
 
-    /// Whether it would over 0xFF.
-    fn succeeds_over_ones(&mut self, place: usize) -> bool {
-        let loader = Loader {
-            mode: self.mode(),
-            expected: self.expected,
-            password: self.password,
-            region: self.ones,
-        };
-        succeeds(&loader, &self.script[place..])
+    /// Whether the frame at this place would succeed in this run.
+    fn succeeds(&mut self, run: Run, place: usize) -> bool {
+        let rest = &self.script[place..];
+        let loader = self.loader(run);
+        packet::frame(rest).is_some_and(|length| loader.judge(&rest[..length]).is_success())
     }
 
     /// Runs the frame at this place over 0xFF alone.
     fn run_over_ones(&mut self, place: usize) {
-        let mut loader = Loader {
-            mode: self.mode(),
-            expected: self.expected,
-            password: self.password,
-            region: self.ones,
-        };
         let rest = &self.script[place..];
+        let mut loader = self.loader(Run::Ones);
         if let Some(length) = packet::frame(rest) {
             loader.apply(loader.judge(&rest[..length]));
         }
     }
 }
 
-/// Whether the frame that these bytes begin with would succeed.
-fn succeeds(loader: &Loader, rest: &[u8]) -> bool {
-    packet::frame(rest).is_some_and(|length| loader.judge(&rest[..length]).is_success())
+/// One of the two runs.
+#[derive(Clone, Copy)]
+enum Run {
+    Zeros,
+    Ones,
 }
 
 /// The reference's checker, its answer altered.
@@ -121,7 +116,7 @@ pub fn runs() -> Vec<Wrong> {
     vec![
         wrong_check!("only the zeros compared", |ran| {
             if let Some(place) = ran.refused(10) {
-                if *ran.zeros == ran.picture() && ran.succeeds_over_zeros(place) {
+                if *ran.zeros == ran.picture() && ran.succeeds(Run::Zeros, place) {
                     ran.pass_by_one_more();
                 }
             }
@@ -135,7 +130,7 @@ pub fn runs() -> Vec<Wrong> {
         }),
         wrong_check!("picture not compared", |ran| {
             if let Some(place) = ran.refused(10) {
-                if ran.succeeds_over_zeros(place) {
+                if ran.succeeds(Run::Zeros, place) {
                     ran.pass_by_one_more();
                 }
             }
@@ -210,7 +205,7 @@ pub fn refusals() -> Vec<Wrong> {
     vec![
         wrong_check!("9 where both runs refuse", |ran| {
             if let Some(place) = ran.refused(8) {
-                if !ran.succeeds_over_ones(place) {
+                if !ran.succeeds(Run::Ones, place) {
                     ran.refuse(9, place);
                 }
             }
@@ -224,7 +219,7 @@ pub fn refusals() -> Vec<Wrong> {
         }),
         wrong_check!("8 only where both runs refuse", |ran| {
             if let Some(place) = ran.refused(8) {
-                if ran.succeeds_over_ones(place) {
+                if ran.succeeds(Run::Ones, place) {
                     ran.refuse(12, ran.script.len());
                 }
             }
@@ -238,7 +233,7 @@ pub fn refusals() -> Vec<Wrong> {
         }),
         wrong_check!("8 before 10", |ran| {
             if let Some(place) = ran.refused(10) {
-                if !ran.succeeds_over_zeros(place) {
+                if !ran.succeeds(Run::Zeros, place) {
                     ran.refuse(8, place);
                 }
             }

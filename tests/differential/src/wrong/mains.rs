@@ -1,7 +1,7 @@
 //! Wrong cuts and restarts: the reference's altered after it, or its input before; and recoveries
 //! from a cut that leave a step out.
 
-use super::Wrong;
+use super::{address, Wrong};
 use crate::implementation::{Implementation, REFERENCE};
 use crate::recovery::{Steps, STEPS};
 use crate::run::Function;
@@ -36,10 +36,6 @@ impl Made<'_> {
         self.region.copy_from_slice(&self.old_region);
         self.region[address..address + bytes.len()].copy_from_slice(bytes);
     }
-}
-
-fn address(core: &[u8]) -> usize {
-    u32::from_le_bytes([core[1], core[2], core[3], core[4]]) as usize
 }
 
 /// The reference's cut, altered where it is not refused.

@@ -30,6 +30,11 @@ mod texts;
 pub use acceptances::{acceptances, WrongAcceptance};
 pub use mains::{recoveries, WrongRecovery};
 
+/// The address in the core of a command that has one.
+fn address(core: &[u8]) -> usize {
+    u32::from_le_bytes([core[1], core[2], core[3], core[4]]) as usize
+}
+
 /// A wrong reference, and the function in which it is wrong.
 pub struct Wrong {
     pub name: &'static str,
