@@ -36,8 +36,9 @@ impl Buffers {
         let [zeros, ones] = &mut self.plain;
         zeros.fill(FILL);
         ones.fill(FILL);
-        let beside = times
-            .plain(|| reference::check(bytes, text, secret, script.expected, SIZE, zeros, ones));
+        let beside = times.plain(|| {
+            reference::check_in_two(bytes, text, secret, script.expected, SIZE, zeros, ones)
+        });
         let answer: Answer = (answer.answer.map_err(ours).err(), answer.packets);
         let beside: Answer = (beside.answer.map_err(theirs).err(), beside.packets);
         assert_eq!(answer, beside, "{}", script.name);

@@ -1,6 +1,6 @@
 //! The two sides of a comparison: every public function as a pointer, in the reference's types.
 
-use reference::{Card, Checked, Mode, Refused, Replied, SensorRecord};
+use reference::{Card, CheckedInTwo as Checked, Mode, Refused, Replied, SensorRecord};
 
 pub type Read = fn(&[u8], usize, &mut [u8]) -> Result<(), Refused>;
 pub type Plan = fn(&[u8], &[u8], u32, usize, &mut [u8]) -> Result<usize, Refused>;
@@ -33,7 +33,7 @@ pub const REFERENCE: Implementation = Implementation {
     checksum: reference::checksum,
     read: reference::read,
     plan: reference::plan,
-    check: reference::check,
+    check: reference::check_in_two,
     call: reference::call,
     cut: |card, size, region, password, message, place| {
         reference::cut(card, size, region, password, message, place)

@@ -1,142 +1,86 @@
-//! Document 01, "Scripts, planner, checker": the checker.
+//! Document 02, T-09: the checker over one region and its known bits. Its answers are taken from
+//! the checker over two buffers, since the paper says what they are by those buffers.
 
-use crate::card::Mode;
-use crate::loader::Loader;
 use crate::packet;
-use crate::refusal::{is_region_size, require, Refused, LONGEST_SCRIPT, LONGEST_TEXT, PASSWORD};
-use crate::script::HEAD;
-use crate::text;
+use crate::refusal::{is_region_size, require, Refused};
+use crate::two_buffers::check_in_two;
 
-/// Pass or a refusal, and the number of packets that succeeded in both runs.
+/// Pass or a refusal, the number of packets that succeeded, and the number of bytes that are still
+/// unknown at the end of the run.
 #[derive(Clone, Copy, Debug, PartialEq, Eq)]
 pub struct Checked {
     pub answer: Result<(), Refused>,
     pub packets: usize,
+    pub unknown: usize,
 }
 
-/// Runs the script over zeros and over 0xFF; the trial buffers are left as the runs leave them.
+impl Checked {
+    /// A refusal that is judged before any packet is run: nothing is counted.
+    pub const fn before_the_run(refused: Refused) -> Checked {
+        Checked {
+            answer: Err(refused),
+            packets: 0,
+            unknown: 0,
+        }
+    }
+}
+
+/// Checks the script. The region is left as the buffer of zeros is, and a byte is known where the
+/// two buffers agree: what the card held before no longer shows there.
 pub fn check(
     script: &[u8],
     text: &[u8],
     password: &[u8],
     expected: u16,
     size: usize,
-    zeros: &mut [u8],
-    ones: &mut [u8],
+    region: &mut [u8],
+    known: &mut [u8],
 ) -> Checked {
-    let lent = [zeros.len(), ones.len()];
-    let picture = match prepare(script, text, password, size, lent) {
-        Ok(picture) => picture,
-        Err(refused) => {
-            return Checked {
-                answer: Err(refused),
-                packets: 0,
-            }
+    if let Err(refused) = require_lent(size, region, known) {
+        return Checked::before_the_run(refused);
+    }
+    let (mut zeros, mut ones) = (vec![0; size], vec![0; size]);
+    let in_two = check_in_two(
+        script, text, password, expected, size, &mut zeros, &mut ones,
+    );
+    if let Err(refused) = in_two.answer {
+        if !is_judged_in_the_run(refused.number) {
+            return Checked::before_the_run(refused);
         }
-    };
-    zeros.fill(0x00);
-    ones.fill(0xFF);
-    let fresh = |region| Loader {
-        mode: Mode::Locked,
-        expected,
-        password,
-        region,
-    };
-    let mut trial = Trial {
-        over_zeros: fresh(zeros),
-        over_ones: fresh(ones),
-        packets: 0,
-    };
-    let answer = trial.run(script, &picture);
+    }
+    region.copy_from_slice(&zeros);
     Checked {
-        answer,
-        packets: trial.packets,
+        answer: in_two.answer,
+        packets: in_two.packets,
+        unknown: compare(&zeros, &ones, known),
     }
 }
 
-/// Refusals 1 to 6, which leave the trial buffers alone; then the picture.
-fn prepare(
-    script: &[u8],
-    text: &[u8],
-    password: &[u8],
-    size: usize,
-    lent: [usize; 2],
-) -> Result<Vec<u8>, Refused> {
-    require(is_region_size(size) && lent == [size; 2], 1)?;
-    require(password.len() == PASSWORD, 2)?;
-    require(
-        text.len() <= LONGEST_TEXT && script.len() <= LONGEST_SCRIPT,
-        18,
-    )?;
-    let segments = text::image(text, size)?;
-    require(script.starts_with(&HEAD), 6)?;
-    let mut picture = vec![0; size];
-    text::draw(&segments, &mut picture);
-    Ok(picture)
+/// Number 1 covers both sizes: N bytes and N/8 bytes.
+pub fn require_lent(size: usize, region: &[u8], known: &[u8]) -> Result<(), Refused> {
+    let lengths_are_right = region.len() == size && known.len() == size / 8;
+    require(is_region_size(size) && lengths_are_right, 1)
 }
 
-/// The two runs side by side. Until an erase the first buffer is all zeros, since nothing else can
-/// be written over it; from the first erase on, the two buffers are the same.
-struct Trial<'a> {
-    over_zeros: Loader<'a>,
-    over_ones: Loader<'a>,
-    packets: usize,
+/// The refusals for which the papers fix what the lent memory holds. For all others it is untouched
+/// and no byte counts as unknown.
+fn is_judged_in_the_run(number: u8) -> bool {
+    (7..=12).contains(&number)
 }
 
-impl Trial<'_> {
-    /// Refusals 7 to 12, packet by packet as reached. Number 9 is unused since T-08.
-    fn run(&mut self, script: &[u8], picture: &[u8]) -> Result<(), Refused> {
-        let mut at = HEAD.len();
-        while at < script.len() {
-            if self.has_started() {
-                return Err(Refused::at(11, at));
-            }
-            let rest = &script[at..];
-            let length = packet::frame(rest).ok_or(Refused::at(7, at))?;
-            self.step(&rest[..length], picture)
-                .map_err(|number| Refused::at(number, at))?;
-            at += length;
-        }
-        if self.has_started() {
-            Ok(())
+/// Sets the bit of each place where the buffers agree, low bit first, and clears the others.
+/// Answers the number of places where they differ.
+fn compare(zeros: &[u8], ones: &[u8], known: &mut [u8]) -> usize {
+    known.fill(0);
+    let mut unknown = 0;
+    for (place, (zero, one)) in zeros.iter().zip(ones).enumerate() {
+        if zero == one {
+            known[place / 8] |= 1 << (place % 8);
         } else {
-            Err(Refused::at(12, script.len()))
+            unknown += 1;
         }
     }
-
-    /// One packet; it is carried out only if it succeeds in both runs. Where the first run accepts
-    /// a packet, so does the second. It is run all the same, since the papers promise what its
-    /// buffer holds, and the picture test reads that buffer too.
-    fn step(&mut self, packet: &[u8], picture: &[u8]) -> Result<(), u8> {
-        if is_start(packet) && !self.both_are(picture) {
-            return Err(10);
-        }
-        let zeros = self.over_zeros.judge(packet);
-        if !zeros.is_success() {
-            return Err(8);
-        }
-        // T-08: what is accepted over zeros is accepted over 0xFF. Before an erase the first buffer
-        // takes only zeros, which can be written over anything. After it, and at a start, the
-        // buffers are the same. No other packet is judged by the region's bytes, and the two
-        // loaders are always in the same mode.
-        let ones = self.over_ones.judge(packet);
-        assert!(
-            ones.is_success(),
-            "T-08 rules out a packet accepted over zeros and refused over 0xFF: {packet:02X?}"
-        );
-        self.over_zeros.apply(zeros);
-        self.over_ones.apply(ones);
-        self.packets += 1;
-        Ok(())
-    }
-
-    fn both_are(&self, picture: &[u8]) -> bool {
-        *self.over_zeros.region == *picture && *self.over_ones.region == *picture
-    }
-
-    fn has_started(&self) -> bool {
-        self.over_zeros.mode == Mode::Application
-    }
+    unknown
 }
 
 /// Whether a frame's core begins with 0x27.
@@ -147,443 +91,326 @@ pub fn is_start(frame: &[u8]) -> bool {
 #[cfg(test)]
 mod tests {
     use super::*;
-    use crate::card::{call, Card};
     use crate::checksum::checksum;
     use crate::planner::plan;
-    use crate::record::SensorRecord;
+    use crate::script::HEAD;
+    use crate::trials::{
+        agreed, left_for, picture, ran, slices, text_of_zeros_after, zeros_everywhere, Agreed, FF,
+        FORMS, TEXT,
+    };
 
-    const FF: [u8; 256] = [0xFF; 256];
-    const TEXT: &[u8] = b"@10\n01 02\nq";
-
-    fn picture(text: &[u8]) -> Vec<u8> {
-        let mut picture = vec![0; 4_096];
-        text::read(text, 4_096, &mut picture).unwrap();
-        picture
+    /// What the password and these packets leave, for the text of the tests.
+    fn left(packets: &[&[u8]]) -> Agreed {
+        left_for(TEXT, checksum(&picture(TEXT)), packets)
     }
 
-    fn planned() -> Vec<u8> {
-        let mut out = vec![0; 1_000];
-        let length = plan(TEXT, &FF, 0x10, 4_096, &mut out).unwrap();
-        out.truncate(length);
-        out
+    /// The bytes of the known bits that aren't 0, each with its index.
+    fn bits(left: &Agreed) -> Vec<(usize, u8)> {
+        let bits = left.known.iter().copied().enumerate();
+        bits.filter(|&(_, bits)| bits != 0).collect()
     }
 
-    /// A text that gives every byte of the region: these first, and then zeros.
-    fn text_of_zeros_after(first: &str) -> Vec<u8> {
-        let zeros = 4_096 - first.split_whitespace().count();
-        format!("@0\n{first}{}q", "00\n".repeat(zeros)).into_bytes()
+    fn all_known(left: &Agreed) -> bool {
+        left.checked.unknown == 0 && left.known.iter().all(|&bits| bits == 0xFF)
     }
 
-    /// The number, place and count for these packets after the head; 0 at 0 is a pass.
-    fn checked(packets: &[&[u8]]) -> (u8, usize, usize) {
-        answered(packets, TEXT, checksum(&picture(TEXT)))
-    }
-
-    /// The number and the count for the password and these packets.
-    fn unlocked(packets: &[&[u8]]) -> (u8, usize) {
-        unlocked_for(TEXT, checksum(&picture(TEXT)), packets)
-    }
-
-    /// The same for another text and expected checksum.
-    fn unlocked_for(text: &[u8], expected: u16, packets: &[&[u8]]) -> (u8, usize) {
-        let password = packet::password(&FF);
-        let packets = [&[password.as_slice()], packets].concat();
-        let (number, _, count) = answered(&packets, text, expected);
-        (number, count)
-    }
-
-    fn slices(packets: &[Vec<u8>]) -> Vec<&[u8]> {
-        packets.iter().map(Vec::as_slice).collect()
-    }
-
-    /// The checker's number, place and count. They and the buffers must be those of two loaders
-    /// that run apart.
-    fn answered(packets: &[&[u8]], text: &[u8], expected: u16) -> (u8, usize, usize) {
-        let script = [&HEAD, packets.concat().as_slice()].concat();
-        let (mut zeros, mut ones) = (vec![3; 4_096], vec![4; 4_096]);
-        let checked = check(&script, text, &FF, expected, 4_096, &mut zeros, &mut ones);
-        let refused = checked.answer.err().unwrap_or(Refused::plain(0));
-        let answer = (refused.number, refused.place, checked.packets);
-        assert_eq!(answer, apart(packets, &picture(text), expected));
-        for (fill, left) in [(0x00, zeros), (0xFF, ones)] {
-            let (succeeded, region) = sent(fill, expected, &packets[..checked.packets]);
-            assert!(!succeeded.contains(&false));
-            assert_eq!(region, left);
-        }
-        answer
-    }
-
-    /// The number, place and count that the table without 9 gives, from loaders that run apart.
-    fn apart(packets: &[&[u8]], picture: &[u8], expected: u16) -> (u8, usize, usize) {
-        let start = packets.iter().position(|packet| is_start(packet));
-        let start = start.unwrap_or(packets.len());
-        let (over_zeros, zeros) = sent(0x00, expected, &packets[..start]);
-        let (over_ones, ones) = sent(0xFF, expected, &packets[..start]);
-        // The claim itself: no success over zeros meets a refusal over 0xFF, even if both loaders
-        // go on after a refused packet.
-        let mut pairs = over_zeros.iter().zip(&over_ones);
-        assert!(pairs.all(|(zeros, ones)| *ones || !zeros));
-
-        let at = |count: usize| HEAD.len() + packets[..count].concat().len();
-        let refused = |number, count| (number, at(count), count);
-        let is_cut = |count: usize| packet::frame(packets[count]).is_none();
-        if let Some(count) = over_zeros.iter().position(|&succeeded| !succeeded) {
-            return refused(if is_cut(count) { 7 } else { 8 }, count);
-        }
-        if start == packets.len() {
-            return refused(12, start);
-        }
-        if is_cut(start) {
-            return refused(7, start);
-        }
-        if zeros != picture || ones != picture {
-            return refused(10, start);
-        }
-        match sent(0x00, expected, &packets[..=start]).0.last() {
-            Some(false) => refused(8, start),
-            _ if start + 1 < packets.len() => refused(11, start + 1),
-            _ => (0, 0, packets.len()),
-        }
-    }
-
-    /// One loader that gets each packet, refused ones too, over a region filled with this byte:
-    /// which of the packets succeed, and the region after them.
-    fn sent(fill: u8, expected: u16, packets: &[&[u8]]) -> (Vec<bool>, Vec<u8>) {
-        let mut region = vec![fill; 4_096];
-        let mut card = Card {
-            mode: Mode::Locked,
-            expected,
-            version: [0; 3],
-            record: SensorRecord::default(),
-        };
-        let send = |packet: &&[u8]| {
-            call(&mut card, 4_096, &mut region, &FF, packet, &mut [0; 64])
-                .is_ok_and(|replied| replied.success)
-        };
-        let succeeded = packets.iter().map(send).collect();
-        (succeeded, region)
-    }
-
-    /// Whether the last packet succeeds over zeros, and whether it does over 0xFF.
-    fn accepted(packets: &[&[u8]], expected: u16) -> (bool, bool) {
-        let last = |fill| sent(fill, expected, packets).0.ends_with(&[true]);
-        (last(0x00), last(0xFF))
+    /// The refusal of both forms for lent memory of these lengths, which it must leave alone. The
+    /// password is wrong too, so that 2 is the answer if 1 isn't.
+    fn refused(size: usize, region: usize, known: usize) -> u8 {
+        let [derived, direct] = FORMS.map(|form| {
+            let (mut region, mut known) = (vec![5; region], vec![6; known]);
+            let checked = form(&HEAD, TEXT, &FF[1..], 0, size, &mut region, &mut known);
+            assert!(region.iter().all(|&byte| byte == 5));
+            assert!(known.iter().all(|&byte| byte == 6));
+            checked
+        });
+        assert_eq!(derived, direct);
+        let refused = derived.answer.unwrap_err();
+        assert_eq!(
+            derived,
+            Checked::before_the_run(Refused::plain(refused.number))
+        );
+        refused.number
     }
 
     #[test]
-    fn planned_scripts_pass() {
-        let (mut zeros, mut ones) = (vec![3; 4_096], vec![4; 4_096]);
-        let picture = picture(TEXT);
-        let sum = checksum(&picture);
-        let script = planned();
-        let passed = check(&script, TEXT, &FF, sum, 4_096, &mut zeros, &mut ones);
-        assert_eq!(passed.answer, Ok(()));
-        assert_eq!(passed.packets, 4);
-        assert_eq!((&zeros, &ones), (&picture, &picture));
-        let wrong = check(&script, TEXT, &FF, !sum, 4_096, &mut zeros, &mut ones);
-        let start = script.len() - 10;
-        assert_eq!(wrong.answer, Err(Refused::at(8, start)));
+    fn number_1_covers_both_sizes() {
+        for size in [4_096, 8_192, 258_048, 262_144] {
+            let bits = size / 8;
+            assert_eq!(refused(size, size, bits), 2);
+            for region in [0, bits, size - 1, size + 1, size - 4_096, size + 4_096] {
+                assert_eq!(refused(size, region, bits), 1);
+                assert_eq!(refused(size, region, region / 8), 1);
+            }
+            for known in [0, 1, bits - 1, bits + 1, bits - 512, bits + 512, size] {
+                assert_eq!(refused(size, size, known), 1);
+            }
+        }
     }
 
     #[test]
-    fn refusals() {
-        let password = packet::password(&FF);
+    fn number_1_for_a_bad_size() {
+        for size in [0, 1, 8, 512, 4_088, 4_095, 4_097, 6_144, 262_152, 266_240] {
+            assert_eq!(refused(size, size, size / 8), 1);
+            assert_eq!(refused(size, 4_096, 512), 1);
+        }
+        assert_eq!(refused(usize::MAX, 4_096, 512), 1);
+    }
+
+    /// The helper sees to it that the lent memory is untouched and that nothing is counted.
+    #[test]
+    fn refusals_before_the_run() {
+        let long_text = vec![b'q'; 1_048_577];
+        let mut long_script = HEAD.to_vec();
+        long_script.resize(2_097_153, 0);
+        let refused = |script: &[u8], text: &[u8], password: &[u8]| {
+            let (number, place, _) = agreed(script, text, password, 0, 4_096).answer();
+            (number, place)
+        };
+        assert_eq!(refused(b"", b"", &FF[1..]), (2, 0));
+        assert_eq!(refused(b"", b"", &[0xFF; 257]), (2, 0));
+        assert_eq!(refused(b"", &long_text, &FF), (18, 0));
+        assert_eq!(refused(&long_script, b"", &FF), (18, 0));
+        assert_eq!(refused(b"", &long_text[1..], &FF), (3, 1));
+        assert_eq!(refused(b"", b"@2", &FF), (3, 2));
+        assert_eq!(refused(b"", b"@0\n00\n@0\n00\n@1000\n00\nq", &FF), (4, 18));
+        assert_eq!(refused(b"", b"@10\n01 02\n@11\n03\nq", &FF), (5, 14));
+        for script in [&b""[..], b"BSX\x01", b"BSX\x00\x01", b"bsx\x01\x00"] {
+            assert_eq!(refused(script, TEXT, &FF), (6, 0));
+        }
+        // The longest script of all is run: its first frame is no packet.
+        assert_eq!(refused(&long_script[..2_097_152], TEXT, &FF), (8, 5));
+    }
+
+    /// The lent memory is filled before the first packet is looked for.
+    #[test]
+    fn a_script_without_a_packet() {
+        for size in [4_096, 12_288, 262_144] {
+            let left = agreed(&HEAD, TEXT, &FF, 0, size);
+            assert_eq!(left.answer(), (12, 5, 0));
+            assert_eq!(left.checked.unknown, size);
+            assert!(left.region.iter().all(|&byte| byte == 0x00));
+            assert!(left.known.iter().all(|&bits| bits == 0x00));
+        }
+    }
+
+    #[test]
+    fn a_script_that_ends_inside_a_packet() {
+        let write = packet::write(0x10, &[0, 0]);
+        for length in 1..write.len() {
+            let left = left(&[&write, &write[..length]]);
+            assert_eq!(left.answer(), (7, 267 + 12, 2));
+            assert_eq!(left.checked.unknown, 4_094);
+            assert_eq!(bits(&left), [(2, 0b0000_0011)]);
+        }
+    }
+
+    /// The region's byte is 0 before and after, and yet the write tells something.
+    #[test]
+    fn a_zero_over_an_unknown_byte_makes_it_known() {
+        for address in 0..16 {
+            let left = left(&[&packet::write(address, &[0])]);
+            assert_eq!(left.answer(), (12, 278, 2));
+            assert_eq!(left.checked.unknown, 4_095);
+            assert_eq!(bits(&left), [(address as usize / 8, 1 << (address % 8))]);
+        }
+        let again = packet::write(4_095, &[0]);
+        let left = left(&[&again, &again]);
+        assert_eq!((left.answer().0, left.checked.unknown), (12, 4_095));
+        assert_eq!(bits(&left), [(511, 0b1000_0000)]);
+    }
+
+    #[test]
+    fn the_low_bit_is_the_first_byte() {
+        let left = left(&[&packet::write(9, &[0, 0])]);
+        assert_eq!(left.known[1], 0b0000_0110);
+        assert_eq!(bits(&left), [(1, 0b0000_0110)]);
+        assert_eq!(left.checked.unknown, 4_094);
+    }
+
+    #[test]
+    fn writes_that_cross_a_byte_of_the_bits() {
+        let written = |address, length| {
+            let left = left(&[&packet::write(address, &vec![0; length])]);
+            assert_eq!(left.checked.unknown, 4_096 - length);
+            bits(&left)
+        };
+        assert_eq!(written(7, 2), [(0, 0b1000_0000), (1, 0b0000_0001)]);
+        assert_eq!(written(5, 8), [(0, 0b1110_0000), (1, 0b0001_1111)]);
+        assert_eq!(written(8, 8), [(1, 0xFF)]);
+        assert_eq!(written(8, 9), [(1, 0xFF), (2, 0b0000_0001)]);
+        assert_eq!(written(7, 9), [(0, 0b1000_0000), (1, 0xFF)]);
+        assert_eq!(
+            written(6, 12),
+            [(0, 0b1100_0000), (1, 0xFF), (2, 0b0000_0011)]
+        );
+        assert_eq!(written(4_086, 10), [(510, 0b1100_0000), (511, 0xFF)]);
+        let block = written(0x103, 256);
+        assert_eq!(block.len(), 33);
+        assert_eq!(
+            (block[0], block[32]),
+            ((32, 0b1111_1000), (64, 0b0000_0111))
+        );
+    }
+
+    #[test]
+    fn bytes_written_twice_count_once() {
+        let writes =
+            [(9, 2), (10, 3), (9, 2)].map(|(at, length)| packet::write(at, &vec![0; length]));
+        let left = left(&slices(&writes));
+        assert_eq!((left.answer().0, left.checked.unknown), (12, 4_092));
+        assert_eq!(bits(&left), [(1, 0b0001_1110)]);
+    }
+
+    /// Neither the bytes before the first that can't be written, nor those of a packet that the
+    /// loader refuses for another cause.
+    #[test]
+    fn a_refused_packet_marks_nothing() {
+        let zeros = packet::write(0x10, &[0, 0]);
+        let mut damaged = packet::write(0x20, &[0, 0]);
+        damaged[8] ^= 1;
+        let refused = [
+            packet::write(0x20, &[0, 0, 1]),
+            packet::write(0x20, &[0xFF]),
+            packet::write(0x0F, &[0, 1]),
+            packet::write(4_095, &[0, 0]),
+            packet::write(4_096, &[0]),
+            packet::write(u32::MAX, &[0]),
+            packet::packet(&[0x15, 0]),
+            packet::password(&[0; 256]),
+            damaged,
+        ];
+        for refused in refused {
+            let left = left(&[&zeros, &refused]);
+            assert_eq!(left.answer(), (8, 279, 2), "{refused:02X?}");
+            assert_eq!(left.checked.unknown, 4_094);
+            assert_eq!(bits(&left), [(2, 0b0000_0011)]);
+        }
+    }
+
+    /// A loader that is still locked refuses them all.
+    #[test]
+    fn nothing_is_known_in_a_locked_loader() {
+        let write = packet::write(0x10, &[0]);
+        for refused in [write, packet::erase(), packet::range_checksum(0, 4)] {
+            let left = ran(&[&refused], TEXT, 0);
+            assert_eq!(left.answer(), (8, 5, 0));
+            assert_eq!((left.checked.unknown, bits(&left)), (4_096, vec![]));
+        }
+    }
+
+    /// A checksum answered from an unknown range doesn't make the range known.
+    #[test]
+    fn a_range_checksum_marks_nothing() {
+        let left = left(&[&packet::range_checksum(0, 4_096)]);
+        assert_eq!((left.answer().0, left.checked.unknown), (12, 4_096));
+        assert_eq!(bits(&left), []);
+    }
+
+    #[test]
+    fn an_erase_makes_every_byte_known() {
+        let zeros = packet::write(0x10, &[0, 0]);
         let erase = packet::erase();
-        let write = packet::write(0x10, &[1, 2]);
-        let start = packet::start(0x10);
-        let (password, erase, write, start) = (&password[..], &erase[..], &write[..], &start[..]);
-        assert_eq!(checked(&[]), (12, 5, 0));
-        assert_eq!(checked(&[start]), (10, 5, 0));
-        assert_eq!(checked(&[erase]), (8, 5, 0));
-        assert_eq!(checked(&[&[0x80, 0, 0, 0x27, 0x27]]), (8, 5, 0));
-        assert_eq!(checked(&[&[7, 1, 0, 0x27, 0, 0]]), (10, 5, 0));
-        assert_eq!(checked(&[password, &[0x80, 0]]), (7, 267, 1));
-        assert_eq!(checked(&[password, &start[..9]]), (7, 267, 1));
-        assert_eq!(checked(&[password, write]), (8, 267, 1));
-        assert_eq!(checked(&[password, erase, start]), (10, 273, 2));
-        assert_eq!(checked(&[password, erase, write]), (12, 285, 3));
-        let passing = [password, erase, write, start];
-        assert_eq!(checked(&passing), (0, 0, 4));
-        assert_eq!(checked(&[&passing[..], &[&[9]]].concat()), (11, 295, 4));
-        assert_eq!(checked(&[&passing[..], &[start]].concat()), (11, 295, 4));
+        let lists: [&[&[u8]]; 3] = [&[&erase], &[&zeros, &erase], &[&erase, &erase]];
+        for packets in lists {
+            let left = left(packets);
+            assert_eq!(left.answer().0, 12);
+            assert!(all_known(&left));
+            assert!(left.region.iter().all(|&byte| byte == 0xFF));
+        }
+        // A write refused after it takes nothing back.
+        let left = left(&[&erase, &zeros, &packet::write(0x11, &[1])]);
+        assert_eq!(left.answer(), (8, 285, 3));
+        assert!(all_known(&left));
+        assert_eq!(left.region[0x0F..0x13], [0xFF, 0, 0, 0xFF]);
     }
 
-    /// Writes of zeros over the whole region.
-    fn zeros_everywhere() -> Vec<Vec<u8>> {
-        let blocks = (0..4_096).step_by(256);
-        blocks.map(|at| packet::write(at, &[0; 256])).collect()
-    }
-
-    /// Zeros may be written over anything, so a script with no erase can pass.
+    /// The region is the picture throughout, so the unknown bytes alone make it 10.
     #[test]
-    fn zeros_need_no_erase() {
+    fn number_10_with_some_bytes_unknown() {
         let text = text_of_zeros_after("");
         let sum = checksum(&[0; 4_096]);
-        let mut packets = zeros_everywhere();
-        packets.push(packet::start(0));
-        assert_eq!(unlocked_for(&text, sum, &slices(&packets)), (0, 18));
-    }
-
-    /// An untouched byte takes any value over 0xFF and only 0 over zeros.
-    #[test]
-    fn writes_over_untouched_bytes() {
-        let written = |at, data: &[u8]| unlocked(&[&packet::write(at, data)]);
-        assert_eq!(written(0x10, &[0]), (12, 2));
-        assert_eq!(written(0x10, &[1]), (8, 1));
-        assert_eq!(written(0x10, &[0xFF]), (8, 1));
-        assert_eq!(written(0x10, &[0, 0, 0x80]), (8, 1));
-        assert_eq!(written(0xF00, &[0; 256]), (12, 2));
-        assert_eq!(written(0xF01, &[0; 256]), (8, 1));
-        assert_eq!(unlocked(&slices(&zeros_everywhere())), (12, 17));
-    }
-
-    /// The zeros at 0x10 and 0x11 are known, and the bytes around them are untouched.
-    #[test]
-    fn writes_across_the_border_of_known_bytes() {
-        let zeros = packet::write(0x10, &[0, 0]);
-        let written = |at, data: &[u8]| unlocked(&[&zeros, &packet::write(at, data)]);
-        assert_eq!(written(0x10, &[0, 0]), (12, 3));
-        assert_eq!(written(0x10, &[1]), (8, 2));
-        assert_eq!(written(0x11, &[0xFF]), (8, 2));
-        assert_eq!(written(0x0F, &[0, 0]), (12, 3));
-        assert_eq!(written(0x0F, &[1, 0]), (8, 2));
-        assert_eq!(written(0x0F, &[0, 1]), (8, 2));
-        assert_eq!(written(0x11, &[0, 0]), (12, 3));
-        assert_eq!(written(0x11, &[0, 0xFF]), (8, 2));
-        assert_eq!(written(0x0F, &[0, 0, 0, 0]), (12, 3));
-        assert_eq!(written(0x0F, &[0xFF, 0, 0, 0xFF]), (8, 2));
-    }
-
-    /// An erase makes every byte known, whatever was written before it.
-    #[test]
-    fn an_erase_in_the_middle() {
-        let zeros = &packet::write(0x10, &[0, 0])[..];
-        let write = &packet::write(0x10, &[1, 2])[..];
-        let erase = &packet::erase()[..];
-        let start = &packet::start(0x10)[..];
-        let erased = |packets: &[&[u8]]| unlocked(&[&[zeros, erase], packets].concat());
-        assert_eq!(erased(&[write]), (12, 4));
-        assert_eq!(erased(&[write, write]), (12, 5));
-        assert_eq!(erased(&[write, zeros]), (12, 5));
-        assert_eq!(erased(&[write, zeros, write]), (8, 5));
-        assert_eq!(erased(&[write, zeros, erase, write]), (12, 7));
-        assert_eq!(erased(&[&packet::write(0x0F, &[0xFF; 9])]), (12, 4));
-        assert_eq!(erased(&[write, &packet::write(0x11, &[3])]), (8, 4));
-        assert_eq!(erased(&[write, start]), (0, 5));
-        assert_eq!(erased(&[write, zeros, start]), (10, 5));
-        assert_eq!(erased(&[zeros, erase, write, start]), (0, 7));
-    }
-
-    /// A range checksum succeeds in both runs, though their data bytes differ.
-    #[test]
-    fn range_checksums_that_differ() {
-        assert_ne!(checksum(&[0; 4]), checksum(&[0xFF; 4]));
-        let summed = |at, length| unlocked(&[&packet::range_checksum(at, length)]);
-        assert_eq!(summed(0x0E, 4), (12, 2));
-        assert_eq!(summed(0, 4_096), (12, 2));
-        assert_eq!(summed(4_096, 0), (12, 2));
-        assert_eq!(summed(4_093, 4), (8, 1));
-        let sum = &packet::range_checksum(0x0E, 4)[..];
-        let zeros = &packet::write(0x10, &[0, 0])[..];
-        assert_eq!(unlocked(&[sum, zeros, sum]), (12, 4));
-    }
-
-    /// By the checksum alone, a start could be accepted in one run only. The picture test comes
-    /// first, and it is 10 even where one of the buffers is the picture.
-    #[test]
-    fn the_picture_test_settles_the_start() {
-        let password = &packet::password(&FF)[..];
-        let zeros = &packet::write(0x10, &[0, 0])[..];
-        let start = &packet::start(0x10)[..];
-        let (of_zeros, of_ones) = (checksum(&[0; 4_096]), checksum(&[0xFF; 4_096]));
-        assert_eq!(accepted(&[password, start], of_zeros), (true, false));
-        assert_eq!(accepted(&[password, start], of_ones), (false, true));
-        // Before any write, the picture is in neither buffer, in the first, or in the second.
-        for text in [TEXT, &text_of_zeros_after(""), b"q"] {
-            for sum in [of_zeros, of_ones] {
-                assert_eq!(unlocked_for(text, sum, &[start]), (10, 1));
-                assert_eq!(unlocked_for(text, sum, &[zeros, start]), (10, 2));
-                assert_eq!(answered(&[start], text, sum), (10, 5, 0));
-            }
-        }
-    }
-
-    /// The bits of 01 10 21 are those of the polynomial, so this image has the checksum of zeros.
-    #[test]
-    fn zeros_with_the_checksum_of_the_image() {
-        let text = text_of_zeros_after("01\n10\n21\n");
-        let sum = checksum(&[0; 4_096]);
-        assert_eq!(checksum(&picture(&text)), sum);
         let start = packet::start(0);
-        assert_eq!(unlocked_for(&text, sum, &[&start]), (10, 1));
-        let mut packets = zeros_everywhere();
+        let whole = zeros_everywhere();
+        for missing in 0..whole.len() {
+            let mut packets = whole.clone();
+            packets[missing] = start.clone();
+            let left = left_for(&text, sum, &slices(&packets[..=missing]));
+            assert_eq!(left.answer(), (10, 267 + 266 * missing, 1 + missing));
+            assert_eq!(left.checked.unknown, 4_096 - 256 * missing);
+            assert_eq!(left.region, picture(&text));
+        }
+        let mut packets = whole;
+        packets[15] = packet::write(0xF00, &[0; 255]);
         packets.push(start);
-        assert_eq!(unlocked_for(&text, sum, &slices(&packets)), (10, 17));
-        packets[0] = packet::write(0, &picture(&text)[..256]);
-        packets.insert(0, packet::erase());
-        assert_eq!(unlocked_for(&text, sum, &slices(&packets)), (0, 19));
+        let left = left_for(&text, sum, &slices(&packets));
+        assert_eq!((left.answer().0, left.answer().2), (10, 17));
+        assert_eq!((left.checked.unknown, left.known[511]), (1, 0b0111_1111));
     }
 
-    /// Where both buffers are the picture, both runs judge the start alike.
+    /// The loader would refuse each of these starts, and the picture test comes before it.
     #[test]
-    fn starts_over_the_picture() {
+    fn number_10_comes_before_8() {
         let sum = checksum(&picture(TEXT));
-        let erase = packet::erase();
-        let write = packet::write(0x10, &[1, 2]);
-        let started = |sum, start: &[u8]| unlocked_for(TEXT, sum, &[&erase, &write, start]);
+        let (zeros, erase) = (packet::write(0x10, &[0, 0]), packet::erase());
         let mut damaged = packet::start(0x10);
         damaged[9] ^= 1;
-        assert_eq!(started(sum, &packet::start(0x10)), (0, 4));
-        assert_eq!(started(sum, &packet::start(4_095)), (0, 4));
-        assert_eq!(started(sum, &packet::start(4_096)), (8, 3));
-        assert_eq!(started(!sum, &packet::start(0x10)), (8, 3));
-        assert_eq!(started(sum, &packet::packet(&[0x27])), (8, 3));
-        assert_eq!(started(sum, &damaged), (8, 3));
-        let blank = checksum(&[0xFF; 4_096]);
-        let start = packet::start(0);
-        assert_eq!(unlocked_for(b"q", blank, &[&erase, &start]), (0, 3));
-    }
-
-    /// With its buffers exchanged, the trial accepts a write in the first run only.
-    #[test]
-    #[should_panic(expected = "T-08 rules out")]
-    fn the_assertion_is_tried() {
-        let unlocked = |region| Loader {
-            mode: Mode::Unlocked,
-            expected: 0,
-            password: &FF,
-            region,
-        };
-        let (mut first, mut second) = ([0xFF; 4_096], [0x00; 4_096]);
-        let mut trial = Trial {
-            over_zeros: unlocked(&mut first),
-            over_ones: unlocked(&mut second),
-            packets: 0,
-        };
-        let _ = trial.step(&packet::write(0x10, &[1]), &picture(TEXT));
-    }
-
-    /// The checksums of the picture, of zeros, and of 0xFF.
-    fn checksums() -> [u16; 3] {
-        [picture(TEXT), vec![0; 4_096], vec![0xFF; 4_096]].map(|region| checksum(&region))
-    }
-
-    #[test]
-    fn every_list_of_four_packets() {
-        let packets = [
-            packet::erase(),
-            packet::write(0x10, &[0, 0]),
-            packet::write(0x10, &[1, 2]),
-            packet::write(0x11, &[2, 0]),
-            packet::write(0x0F, &[0xFF, 0]),
-            packet::range_checksum(0x0F, 4),
+        let starts = [
             packet::start(0x10),
+            packet::start(4_096),
+            packet::packet(&[0x27]),
+            vec![0x81, 1, 0, 0x27, 0, 0],
+            damaged,
         ];
-        let mut seen = [0; 13];
-        for sum in checksums() {
-            for list in 0..7 * 7 * 7 * 7 {
-                let list = [343, 49, 7, 1].map(|place| &packets[list / place % 7][..]);
-                let (number, _) = unlocked_for(TEXT, sum, &list);
-                seen[usize::from(number)] += 1;
-            }
-        }
-        // Each number that whole packets can bring, and no other.
-        for (number, &lists) in seen.iter().enumerate() {
-            assert_eq!(lists > 0, [0, 8, 10, 11, 12].contains(&number), "{number}");
-        }
-    }
-
-    /// Numbers that look random and are the same in each run of the tests (xorshift).
-    struct Dice(u64);
-
-    impl Dice {
-        fn below(&mut self, bound: usize) -> usize {
-            self.0 ^= self.0 << 13;
-            self.0 ^= self.0 >> 7;
-            self.0 ^= self.0 << 17;
-            (self.0 >> 32) as usize % bound
-        }
-
-        fn one_of<T: Copy>(&mut self, values: &[T]) -> T {
-            values[self.below(values.len())]
-        }
-
-        /// Most often a packet that succeeds over a region whose bytes can become these. The
-        /// addresses are few, so that packets meet.
-        fn packet(&mut self, bytes: &[u8]) -> Vec<u8> {
-            let at = self.one_of(&[0x0E, 0x0F, 0x10, 0x11, 0x12, 4_092, 4_094]);
-            let length = 1 + self.below(4);
-            let end = bytes.len().min(at + length);
-            let address = at as u32;
-            match self.below(32) {
-                0..=19 => packet::write(address, &bytes[at..end]),
-                20..=21 => packet::write(address, &vec![0; length]),
-                22 => packet::write(address, &vec![self.one_of(&[1, 2, 3, 0xFF]); length]),
-                23..=27 => packet::range_checksum(address, length as u16),
-                28 => packet::erase(),
-                29 => packet::start(address),
-                30 => packet::password(self.one_of(&[&FF, &[0; 256]])),
-                _ => {
-                    let mut damaged = packet::erase();
-                    damaged[self.one_of(&[0, 3, 4, 5])] ^= 1 << self.below(8);
-                    damaged
-                }
-            }
-        }
-
-        /// Most often the password, zeros over untouched bytes, an erase, pieces of the picture
-        /// and a start. Any of these can be missing, and the last packet can be cut.
-        fn packets(&mut self, picture: &[u8]) -> Vec<Vec<u8>> {
-            let mut packets = Vec::new();
-            if self.below(16) > 0 {
-                packets.push(packet::password(&FF));
-            }
-            for _ in 0..self.below(5) {
-                packets.push(self.packet(&[0; 4_096]));
-            }
-            if self.below(4) > 0 {
-                packets.push(packet::erase());
-            }
-            for _ in 0..self.below(6) {
-                packets.push(self.packet(picture));
-            }
-            if self.below(4) > 0 {
-                packets.push(packet::start(0x10));
-            }
-            if self.below(8) == 0 {
-                let mut last = self.packet(picture);
-                last.truncate(self.below(last.len()) + 1);
-                packets.push(last);
-            }
-            packets
+        for start in starts {
+            let locked = ran(&[&start], TEXT, !sum);
+            assert_eq!(locked.answer(), (10, 5, 0));
+            assert_eq!(locked.checked.unknown, 4_096);
+            let left = left_for(TEXT, !sum, &[&zeros, &start]);
+            assert_eq!(left.answer(), (10, 279, 2));
+            assert_eq!(left.checked.unknown, 4_094);
+            let left = left_for(TEXT, !sum, &[&erase, &start]);
+            assert_eq!(left.answer(), (10, 273, 2));
+            assert!(all_known(&left));
         }
     }
 
     #[test]
-    fn many_lists_of_packets() {
-        let mut dice = Dice(0x5EED_0008);
-        let (picture, checksums) = (picture(TEXT), checksums());
-        let mut seen = [0; 13];
-        let (mut writes, mut starts) = (0, 0);
-        for _ in 0..3_000 {
-            let packets = dice.packets(&picture);
-            let packets = slices(&packets);
-            let sum = dice.one_of(&checksums);
-            let (number, _, count) = answered(&packets, TEXT, sum);
-            seen[usize::from(number)] += 1;
-            if number == 8 || number == 10 {
-                match accepted(&packets[..=count], sum) {
-                    (true, false) => starts += 1,
-                    (false, true) if number == 8 => writes += 1,
-                    _ => {}
-                }
-            }
+    fn number_11_after_a_start() {
+        let write = packet::write(0x10, &[1, 2]);
+        let (erase, start) = (packet::erase(), packet::start(0x10));
+        for after in [&[9][..], &write, &start, &erase] {
+            let left = left(&[&erase, &write, &start, after]);
+            assert_eq!(left.answer(), (11, 295, 4));
+            assert!(all_known(&left));
+            assert_eq!(left.region, picture(TEXT));
         }
-        for (number, &lists) in seen.iter().enumerate() {
-            let is_used = [0, 7, 8, 10, 11, 12].contains(&number);
-            assert_eq!(lists > 0, is_used, "{number}");
-        }
-        // Some lists end where the two loaders part.
-        assert!(writes > 0 && starts > 0);
+    }
+
+    #[test]
+    fn a_pass_without_an_erase() {
+        let text = text_of_zeros_after("");
+        let mut packets = zeros_everywhere();
+        packets.push(packet::start(0));
+        let left = left_for(&text, checksum(&[0; 4_096]), &slices(&packets));
+        assert_eq!(left.answer(), (0, 0, 18));
+        assert!(all_known(&left));
+        assert_eq!(left.region, vec![0; 4_096]);
+    }
+
+    /// The longest region that there is, and a text that gives every byte of it.
+    #[test]
+    fn a_planned_script_of_the_greatest_size_passes() {
+        let text = format!("@0\n{}q", "5A\n".repeat(262_144)).into_bytes();
+        let sum = checksum(&[0x5A; 262_144]);
+        let mut script = vec![0; 300_000];
+        let length = plan(&text, &FF, 0, 262_144, &mut script).unwrap();
+        let passed = agreed(&script[..length], &text, &FF, sum, 262_144);
+        assert_eq!(passed.answer(), (0, 0, 1_027));
+        assert_eq!(passed.region, vec![0x5A; 262_144]);
+        let start = length - 10;
+        let refused = agreed(&script[..length], &text, &FF, !sum, 262_144);
+        assert_eq!(refused.answer(), (8, start, 1_026));
+        assert!(all_known(&refused));
     }
 }

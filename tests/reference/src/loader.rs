@@ -30,7 +30,7 @@ pub enum Outcome<'m> {
 }
 
 /// A core taken apart by its command and length.
-enum Command<'m> {
+pub enum Command<'m> {
     Password(&'m [u8]),
     Erase,
     Write { address: usize, data: &'m [u8] },
@@ -40,7 +40,7 @@ enum Command<'m> {
 
 impl<'m> Command<'m> {
     /// Nothing for an unknown command or a wrong core length.
-    fn of(core: &'m [u8]) -> Option<Command<'m>> {
+    pub fn of(core: &'m [u8]) -> Option<Command<'m>> {
         let (&code, rest) = core.split_first()?;
         match (code, rest.len()) {
             (packet::PASSWORD, 256) => Some(Command::Password(rest)),
@@ -61,7 +61,7 @@ impl<'m> Command<'m> {
     }
 
     /// Whether the bytes it names lie inside a region of this size.
-    fn is_inside(&self, size: usize) -> bool {
+    pub fn is_inside(&self, size: usize) -> bool {
         match *self {
             Command::Password(_) | Command::Erase => true,
             Command::Write { address, data } => address + data.len() <= size,

@@ -338,8 +338,8 @@ mod tests {
         let mut script = vec![0; 1_000];
         let length = plan(firmware, &KEY, 0x10, 8_192, &mut script).unwrap();
         let script = &script[..length];
-        let (mut zeros, mut ones) = (vec![0; 8_192], vec![0; 8_192]);
-        let checked = check(script, firmware, &KEY, sum, 8_192, &mut zeros, &mut ones);
+        let (mut region, mut known) = (vec![0; 8_192], vec![0; 1_024]);
+        let checked = check(script, firmware, &KEY, sum, 8_192, &mut region, &mut known);
         assert_eq!(checked.answer, Ok(()));
         let messages = frames(script).unwrap();
         for before in 0..messages.len() {

@@ -1,5 +1,6 @@
 //! Document 01, "Refusal numbers", and the limits that the first refusals judge. Document 02, T-08,
-//! took number 9 from the table: it stays unused, and nothing answers it.
+//! took number 9 from the table: it stays unused, and nothing answers it. T-09 made number 1 judge
+//! the checker's region and its N/8 bytes of known bits.
 
 /// A refusal: its number, and its place (0 where the paper names none).
 #[derive(Clone, Copy, Debug, PartialEq, Eq)]

@@ -31,6 +31,39 @@ pub struct Parsed {
     pub repeated: Option<usize>,
 }
 
+/// Takes what the lines of a text give, in text order.
+trait Taker {
+    /// A segment begins.
+    fn open(&mut self, address: u64);
+
+    /// The next byte of the segment, at this address.
+    fn take(&mut self, address: u64, value: u8);
+}
+
+impl Taker for Vec<Segment> {
+    fn open(&mut self, address: u64) {
+        let bytes = Vec::new();
+        self.push(Segment { address, bytes });
+    }
+
+    fn take(&mut self, _address: u64, value: u8) {
+        if let Some(segment) = self.last_mut() {
+            segment.bytes.push(value);
+        }
+    }
+}
+
+/// A region takes the bytes at their addresses.
+impl Taker for [u8] {
+    fn open(&mut self, _address: u64) {}
+
+    fn take(&mut self, address: u64, value: u8) {
+        if let Some(byte) = self.get_mut(address as usize) {
+            *byte = value;
+        }
+    }
+}
+
 /// Fills the region with the picture of the text.
 pub fn read(text: &[u8], size: usize, region: &mut [u8]) -> Result<(), Refused> {
     require(is_region_size(size) && region.len() == size, 1)?;
@@ -42,13 +75,28 @@ pub fn read(text: &[u8], size: usize, region: &mut [u8]) -> Result<(), Refused> 
 pub fn image(text: &[u8], size: usize) -> Result<Vec<Segment>, Refused> {
     require(text.len() <= LONGEST_TEXT, 18)?;
     let parsed = parse(text, size, TI_TXT)?;
-    if let Some(place) = parsed.outside {
-        return Err(Refused::at(4, place));
-    }
-    if let Some(place) = parsed.repeated {
-        return Err(Refused::at(5, place));
-    }
+    require_addresses(parsed.outside, parsed.repeated)?;
     Ok(parsed.segments)
+}
+
+/// The picture of a sound text, by the same refusals. It is drawn as the text is parsed, without
+/// the segments.
+pub fn picture(text: &[u8], size: usize) -> Result<Vec<u8>, Refused> {
+    require(text.len() <= LONGEST_TEXT, 18)?;
+    let mut picture = vec![0xFF; size];
+    let mut parser = Parser::new(text, size, TI_TXT, picture.as_mut_slice());
+    parser.lines()?;
+    require_addresses(parser.outside, parser.repeated)?;
+    Ok(picture)
+}
+
+/// Refusal 4 is judged over the whole text before refusal 5.
+fn require_addresses(outside: Option<usize>, repeated: Option<usize>) -> Result<(), Refused> {
+    match (outside, repeated) {
+        (Some(place), _) => Err(Refused::at(4, place)),
+        (None, Some(place)) => Err(Refused::at(5, place)),
+        (None, None) => Ok(()),
+    }
 }
 
 /// The picture of segments that lie inside the region.
@@ -65,37 +113,50 @@ pub fn draw(segments: &[Segment], region: &mut [u8]) {
 
 /// Parses a text, or refuses it with 3 where no well-formed text goes on.
 pub fn parse(text: &[u8], size: usize, grammar: Grammar) -> Result<Parsed, Refused> {
-    let mut parser = Parser {
-        text,
-        at: 0,
-        grammar,
-        given: vec![false; size],
-        parsed: Parsed {
-            segments: Vec::new(),
-            outside: None,
-            repeated: None,
-        },
-    };
+    let mut segments = Vec::new();
+    let mut parser = Parser::new(text, size, grammar, &mut segments);
     parser.lines()?;
-    Ok(parser.parsed)
+    let (outside, repeated) = (parser.outside, parser.repeated);
+    Ok(Parsed {
+        segments,
+        outside,
+        repeated,
+    })
 }
 
-struct Parser<'a> {
+struct Parser<'a, T: Taker + ?Sized> {
     text: &'a [u8],
     at: usize,
     grammar: Grammar,
+    /// The address of the next pair, once a segment is open.
+    next: Option<u64>,
     /// For each address of the region, whether a pair gave it.
     given: Vec<bool>,
-    parsed: Parsed,
+    outside: Option<usize>,
+    repeated: Option<usize>,
+    taker: &'a mut T,
 }
 
-impl Parser<'_> {
+impl<'a, T: Taker + ?Sized> Parser<'a, T> {
+    fn new(text: &'a [u8], size: usize, grammar: Grammar, taker: &'a mut T) -> Self {
+        Parser {
+            text,
+            at: 0,
+            grammar,
+            next: None,
+            given: vec![false; size],
+            outside: None,
+            repeated: None,
+            taker,
+        }
+    }
+
     fn lines(&mut self) -> Result<(), Refused> {
         loop {
             match self.peek() {
                 Some(b'@') => self.segment_line()?,
                 Some(b'q') => return self.last_line(),
-                Some(_) if !self.parsed.segments.is_empty() => self.data_line()?,
+                Some(_) if self.next.is_some() => self.data_line()?,
                 _ => return Err(self.malformed()),
             }
         }
@@ -113,8 +174,8 @@ impl Parser<'_> {
             self.at += 1;
         }
         self.line_end()?;
-        let bytes = Vec::new();
-        self.parsed.segments.push(Segment { address, bytes });
+        self.next = Some(address);
+        self.taker.open(address);
         Ok(())
     }
 
@@ -182,19 +243,19 @@ impl Parser<'_> {
         Refused::at(3, self.at)
     }
 
-    /// Takes one byte into the last segment and judges its address.
+    /// Hands on the next byte of the open segment and judges its address.
     fn give(&mut self, value: u8, place: usize) {
-        let Some(segment) = self.parsed.segments.last_mut() else {
+        let Some(address) = self.next else {
             return;
         };
-        let address = segment.address + segment.bytes.len() as u64;
-        segment.bytes.push(value);
+        self.next = Some(address + 1);
+        self.taker.take(address, value);
         match self.given.get_mut(address as usize) {
             None => {
-                self.parsed.outside.get_or_insert(place);
+                self.outside.get_or_insert(place);
             }
             Some(given) if *given => {
-                self.parsed.repeated.get_or_insert(place);
+                self.repeated.get_or_insert(place);
             }
             Some(given) => *given = true,
         }
@@ -217,6 +278,7 @@ mod tests {
 
     fn refused(text: &str) -> (u8, usize) {
         let refused = image(text.as_bytes(), 4_096).unwrap_err();
+        assert_eq!(super::picture(text.as_bytes(), 4_096), Err(refused));
         (refused.number, refused.place)
     }
 
@@ -282,8 +344,10 @@ mod tests {
     #[test]
     fn picture() {
         let mut region = vec![7; 4_096];
-        read(b"@fff\n01\n@ffffffff\n@0\n02\nq", 4_096, &mut region).unwrap();
+        let text = b"@fff\n01\n@ffffffff\n@0\n02\nq";
+        read(text, 4_096, &mut region).unwrap();
         assert_eq!((region[0], region[1], region[4_095]), (2, 0xFF, 1));
+        assert_eq!(super::picture(text, 4_096).unwrap(), region);
         assert_eq!(
             read(b"q", 8_192, &mut region).unwrap_err(),
             Refused::plain(1)

@@ -4,7 +4,7 @@ use super::Wrong;
 use crate::implementation::{Implementation, REFERENCE};
 use crate::run::Function;
 use reference::loader::Loader;
-use reference::{packet, Checked, Mode, Refused};
+use reference::{packet, CheckedInTwo as Checked, Mode, Refused};
 
 /// A script that the reference checked, its answer to be altered.
 struct Ran<'a> {
@@ -104,7 +104,7 @@ macro_rules! wrong_check {
         wrong!($name, Check, check: |script, text, password, expected, size, zeros, ones| {
             let alter: fn(&mut Ran) = $alter;
             let lent = [zeros.to_vec(), ones.to_vec()];
-            let checked = reference::check(script, text, password, expected, size, zeros, ones);
+            let checked = reference::check_in_two(script, text, password, expected, size, zeros, ones);
             let mut ran = Ran { script, text, password, expected, zeros, ones, lent, checked };
             alter(&mut ran);
             ran.checked
