@@ -8,12 +8,17 @@
 enum { SIZE = 4096 };
 
 static const uint8_t text[] = "@10\n01 02\nq\n";
-static uint8_t password[256], region[SIZE], zeros[SIZE], ones[SIZE], script[400], reply[64];
+static uint8_t password[256], region[SIZE], trial[SIZE], known[SIZE / 8], script[400], reply[64];
 static uint8_t record[ZLATOPYSK_RECORD], bytes[64];
 static const uint8_t version[3] = {6, 2, 11};
 
 static void show(const char *name, struct zlatopysk_answer a) {
     printf("%s: refusal %u place %u count %u\n", name, (unsigned)a.refusal, (unsigned)a.place, (unsigned)a.count);
+}
+
+static void show_check(const char *name, struct zlatopysk_checked c) {
+    printf("%s: refusal %u place %u packets %u unknown %u\n", name, (unsigned)c.refusal, (unsigned)c.place,
+           (unsigned)c.packets, (unsigned)c.unknown);
 }
 
 static void show_bytes(const uint8_t *from, size_t n) {
@@ -50,6 +55,26 @@ static void try_record(void) {
            record[ZLATOPYSK_DEVICE2 + ZLATOPYSK_DEVICE_FPGA_TEMPERATURE]);
     zlatopysk_read_record(bytes, 63, record, &a);
     show("read_record of 63 bytes", a);
+}
+
+/* A check of the script's first bytes, and the trial region's bytes at an address and their known bits then. */
+static void check(const char *name, size_t n, size_t known_n) {
+    struct zlatopysk_checked c;
+    zlatopysk_check(script, n, text, sizeof text - 1, password, sizeof password, zlatopysk_checksum(region, SIZE), SIZE,
+                    trial, SIZE, known, known_n, &c);
+    show_check(name, c);
+    printf("at 0x10:");
+    show_bytes(trial + 16, 4);
+    printf("known from 0x10 on:");
+    show_bytes(known + 2, 1);
+}
+
+/* Checks of a script of so many bytes: whole, without the start, its head alone, and with too few known bits. */
+static void try_check(size_t n) {
+    check("check", n, sizeof known);
+    check("check of all but the start", n - 10, sizeof known);
+    check("check of the head", 5, sizeof known);
+    check("check with fewer known bits", n, sizeof known - 1);
 }
 
 /* A message cut at a place, and the region's bytes at an address then. */
@@ -99,11 +124,7 @@ int main(void) {
     show_bytes(region + 15, 4);
     zlatopysk_plan(text, sizeof text - 1, password, sizeof password, 0x201, SIZE, script, sizeof script, &a);
     show("plan", a);
-    zlatopysk_check(script, a.count, text, sizeof text - 1, password, sizeof password,
-                    zlatopysk_checksum(region, SIZE), SIZE, zeros, SIZE, ones, SIZE, &a);
-    show("check", a);
-    zlatopysk_check(script, 5, text, sizeof text - 1, password, sizeof password, 0, SIZE, zeros, SIZE, ones, SIZE, &a);
-    show("check of the head", a);
+    try_check(a.count);
     try_record();
     uint8_t mode = send("version", ZLATOPYSK_APPLICATION, (const uint8_t *)"\x04", 1);
     mode = send("temperature", mode, (const uint8_t *)"\x05", 1);

@@ -1,7 +1,7 @@
 //! Where the time of checking a full script goes: the best times of scripts that go one part further each, the first
 //! three with a text of no bytes, which is judged in no time. The checksums of packets cannot be cut off from their
-//! writes: they are reckoned, byte for byte, from what the checksums of both buffers take at the start of the last
-//! script, which the one before it does not reach; the rest of the writes is what is left.
+//! writes: they are reckoned, byte for byte, from what the region's checksum takes at the start of the last script,
+//! which the one before it does not reach; the rest of the writes is what is left.
 
 use crate::scripts::{self, Script, HEAD, START, WRITES_AT};
 use crate::texts::SIZE;
@@ -33,13 +33,13 @@ fn parts(full: &Script, best: [f64; STAGES]) -> [(&'static str, f64); 8] {
     let cores = (full.bytes.len() - START - WRITES_AT - around) as f64;
     let sums = cores / SIZE as f64 * (best[7] - best[6]);
     [
-        ("both buffers filled", best[0]),
-        ("password, and both buffers erased", best[1] - best[0]),
-        ("checksums of the writes, twice (reckoned)", sums),
-        ("the rest of the writes, twice", best[2] - best[1] - sums),
+        ("region and known bits filled", best[0]),
+        ("password, and both erased", best[1] - best[0]),
+        ("checksums of the writes (reckoned)", sums),
+        ("the rest of the writes", best[2] - best[1] - sums),
         ("the text judged", best[3] - best[2]),
-        ("both buffers compared with the picture", best[4] - best[3]),
-        ("checksums of both buffers", best[5] - best[4]),
+        ("region compared, unknown bytes counted", best[4] - best[3]),
+        ("checksum of the region", best[5] - best[4]),
         ("all", best[5]),
     ]
 }

@@ -102,7 +102,7 @@ impl Script {
         }
     }
 
-    /// With a fault in its start, which shows only once the buffers have been compared.
+    /// With a fault in its start, which shows only once the region has been compared.
     pub fn with_bad_start(&self) -> Script {
         let mut script = self.clone();
         *script.bytes.last_mut().expect("a script has bytes") ^= 1;

@@ -10,7 +10,7 @@
 
 enum { SIZE = 262144, SECRET = 256, LONGEST = 2097153 };
 
-static uint8_t script[LONGEST], text[LONGEST], password[SECRET], zeros[SIZE], ones[SIZE];
+static uint8_t script[LONGEST], text[LONGEST], password[SECRET], region[SIZE], known[SIZE / 8];
 
 /* the bytes of a file, and one more than the library takes at most where it has more */
 static size_t read_file(const char *path, uint8_t *bytes) {
@@ -24,17 +24,24 @@ static size_t read_file(const char *path, uint8_t *bytes) {
     return n;
 }
 
-static int print_answer(const struct zlatopysk_answer *answer) {
-    if (answer->refusal)
-        printf("refusal %llu at %llu", (unsigned long long)answer->refusal, (unsigned long long)answer->place);
+static void print_refusal(uint64_t refusal, uint64_t place) {
+    printf("refusal %llu at %llu", (unsigned long long)refusal, (unsigned long long)place);
+}
+
+static int print_answer(const struct zlatopysk_checked *checked) {
+    if (checked->refusal)
+        print_refusal(checked->refusal, checked->place);
     else
         printf("passed");
-    printf(", %llu packets\n", (unsigned long long)answer->count);
-    return answer->refusal != 0;
+    printf(", %llu packets", (unsigned long long)checked->packets);
+    if (checked->unknown) printf(", %llu bytes still unknown", (unsigned long long)checked->unknown);
+    printf("\n");
+    return checked->refusal != 0;
 }
 
 int main(int count, char **words) {
     struct zlatopysk_answer answer;
+    struct zlatopysk_checked checked;
     if (count != 3) {
         fprintf(stderr, "usage: example SCRIPT TEXT\n");
         return 2;
@@ -43,10 +50,15 @@ int main(int count, char **words) {
     memset(password, 0xFF, SECRET);
 
     /* the checksum that the card must expect is that of the text's picture */
-    zlatopysk_read(text, text_n, SIZE, zeros, SIZE, &answer);
-    if (answer.refusal) return print_answer(&answer);
-    uint16_t expected = zlatopysk_checksum(zeros, SIZE);
+    zlatopysk_read(text, text_n, SIZE, region, SIZE, &answer);
+    if (answer.refusal) {
+        print_refusal(answer.refusal, answer.place);
+        printf("\n");
+        return 1;
+    }
+    uint16_t expected = zlatopysk_checksum(region, SIZE);
 
-    zlatopysk_check(script, script_n, text, text_n, password, SECRET, expected, SIZE, zeros, SIZE, ones, SIZE, &answer);
-    return print_answer(&answer);
+    zlatopysk_check(script, script_n, text, text_n, password, SECRET, expected, SIZE, region, SIZE, known, sizeof known,
+                    &checked);
+    return print_answer(&checked);
 }

@@ -7,8 +7,8 @@
    alignment, a struct the one that C gives it.
 
    No function keeps any state: calls from several threads may run at the same time, if none writes to memory that
-   another uses. A call that refuses changes no byte but the answer's, except the checker's two trial buffers once
-   packets are run. */
+   another uses. A call that refuses changes no byte but the answer's, except the checker's region and known bits,
+   which refusals 7 to 12 fill and leave as the run ended. */
 #ifndef ZLATOPYSK_H
 #define ZLATOPYSK_H
 
@@ -23,6 +23,12 @@ extern "C" {
    is unused); the refusal's place, 0 where they name none; and a count. 24 bytes. */
 struct zlatopysk_answer {
     uint64_t refusal, place, count;
+};
+
+/* A check's answer: the refusal's number, or 0 for none; its place; how many packets succeeded; and how many bytes of
+   the region are still unknown at the end of the run, 0 on pass and for a refusal other than 7 to 12. 32 bytes. */
+struct zlatopysk_checked {
+    uint64_t refusal, place, packets, unknown;
 };
 
 /* A call's answer: the refusal's number, or 0 for none; how many bytes the reply has; 1 if it is document 01's
@@ -121,12 +127,14 @@ void zlatopysk_read(const uint8_t *text, size_t text_n, size_t size, uint8_t *re
 void zlatopysk_plan(const uint8_t *text, size_t text_n, const uint8_t *password, size_t password_n, uint32_t entry,
                     size_t size, uint8_t *out, size_t out_n, struct zlatopysk_answer *answer);
 
-/* Says whether a script puts the image of a firmware text into every card, whatever its flash held before: it runs the
-   script over `size` bytes 0x00 and over as many 0xFF, in the two trial buffers. The count is that of the packets that
-   succeeded in both runs. */
-void zlatopysk_check(const uint8_t *script, size_t script_n, const uint8_t *text, size_t text_n, const uint8_t *password,
-                     size_t password_n, uint16_t expected, size_t size, uint8_t *zeros, size_t zeros_n, uint8_t *ones,
-                     size_t ones_n, struct zlatopysk_answer *answer);
+/* Says whether a script puts the image of a firmware text into every card, whatever its flash held before. It runs the
+   script in a region of `size` bytes and keeps a bit for each of them in `size` / 8 bytes, the low bit of each byte
+   first: 1 where the byte is known whatever the flash held, which an erase makes every byte and a write its own. An
+   unknown byte stands as 0. Refusals 7 to 12 and a pass leave in both what the packets that succeeded left, and on pass
+   every bit is 1; the other refusals change neither. */
+void zlatopysk_check(const uint8_t *script, size_t script_n, const uint8_t *text, size_t text_n,
+                     const uint8_t *password, size_t password_n, uint16_t expected, size_t size, uint8_t *region,
+                     size_t region_n, uint8_t *known, size_t known_n, struct zlatopysk_checked *checked);
 
 /* One message to a card, whose state is its mode, the checksum that it expects, its version xx.yy.zz as the bytes xx,
    yy and zz, its sensor record's values, and its flash, which is the region of `size` bytes. The reply stands over the

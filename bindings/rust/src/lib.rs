@@ -46,11 +46,11 @@ mod library {
             password_n: usize,
             expected: u16,
             size: usize,
-            zeros: *mut u8,
-            zeros_n: usize,
-            ones: *mut u8,
-            ones_n: usize,
-            answer: *mut [u64; 3],
+            region: *mut u8,
+            region_n: usize,
+            known: *mut u8,
+            known_n: usize,
+            checked: *mut [u64; 4],
         );
 
         pub fn zlatopysk_call(
@@ -122,11 +122,13 @@ pub struct Refused {
     pub place: usize,
 }
 
-/// What the checker answers: `Ok` on pass; and the number of packets that succeeded in both runs.
+/// What the checker answers: `Ok` on pass; the number of packets that succeeded; and that of the bytes still unknown at
+/// the end of the run, 0 on pass and for a refusal other than 7 to 12.
 #[derive(Clone, Copy, Debug, PartialEq, Eq)]
 pub struct Checked {
     pub answer: Result<(), Refused>,
     pub packets: usize,
+    pub unknown: usize,
 }
 
 /// The mode of a card.
@@ -231,20 +233,21 @@ pub fn plan(
     answered(answer)
 }
 
-/// Says whether the script puts the text's image into every card, whatever its flash held before: it runs the script
-/// over zeros and over 0xFF, in the two lent buffers of `size` bytes. Refusals 7 to 12 and a pass leave in them what the
-/// packets that succeeded in both runs left, the others change nothing.
+/// Says whether the script puts the text's image into every card, whatever its flash held before. It runs the script in
+/// the region, of `size` bytes, and keeps a bit for each of them in `known`, of `size / 8` bytes, the low bit of each byte
+/// first: 1 where the byte is known whatever the flash held. An unknown byte stands as 0. Refusals 7 to 12 and a pass
+/// leave in both what the packets that succeeded left, and on pass every bit is 1; the other refusals change neither.
 pub fn check(
     script: &[u8],
     text: &[u8],
     password: &[u8],
     expected: u16,
     size: usize,
-    zeros: &mut [u8],
-    ones: &mut [u8],
+    region: &mut [u8],
+    known: &mut [u8],
 ) -> Checked {
-    let mut answer = [0; 3];
-    // SAFETY: each pointer and length are those of a slice; `zeros`, `ones` and `answer` are lent to this call alone.
+    let mut checked = [0; 4];
+    // SAFETY: each pointer and length are those of a slice; `region`, `known` and `checked` are lent to this call alone.
     unsafe {
         library::zlatopysk_check(
             script.as_ptr(),
@@ -255,16 +258,18 @@ pub fn check(
             password.len(),
             expected,
             size,
-            zeros.as_mut_ptr(),
-            zeros.len(),
-            ones.as_mut_ptr(),
-            ones.len(),
-            &mut answer,
+            region.as_mut_ptr(),
+            region.len(),
+            known.as_mut_ptr(),
+            known.len(),
+            &mut checked,
         );
     }
+    let [refusal, place, packets, unknown] = checked;
     Checked {
-        answer: answered(answer).map(|_| ()),
-        packets: answer[2] as usize,
+        answer: answered([refusal, place, 0]).map(|_| ()),
+        packets: packets as usize,
+        unknown: unknown as usize,
     }
 }
 

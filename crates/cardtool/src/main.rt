@@ -14,23 +14,23 @@ fn main() {
     let options = request.options;
     let mut text = input_rooms::text_room();
     let mut script = input_rooms::script_room();
-    let mut zeros = input_rooms::region_room();
-    let mut ones = input_rooms::region_room();
+    let mut region = input_rooms::region_room();
+    let mut known = input_rooms::known_room();
     match command {
-        Command::Plan => tool_output::plan::run(options, &mut text, &mut script, &mut zeros),
+        Command::Plan => tool_output::plan::run(options, &mut text, &mut script, &mut region),
         Command::Check | Command::Cuts => {
             check::run(
                 command,
                 options,
                 &mut text,
                 &mut script,
-                &mut zeros,
-                &mut ones,
+                &mut region,
+                &mut known,
             )
         }
         Command::Show => tool_show::run(options, &mut script),
-        Command::Image => tool_image::run(options, &mut text, &mut zeros),
-        Command::Picture => tool_output::picture::run(options, &mut text, &mut zeros),
+        Command::Image => tool_image::run(options, &mut text, &mut region),
+        Command::Picture => tool_output::picture::run(options, &mut text, &mut region),
         Command::Record => tool_record::run(options),
         _ => usage::answer(command),
     }

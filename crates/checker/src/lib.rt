@@ -1,26 +1,31 @@
 // The script checker: whether a script puts the image of a firmware text into every card, whatever its
-// flash held before. It runs the loader that `card::call` runs on two trial buffers, one filled with 0x00
-// and one with 0xFF, packet by packet, and compares both with the picture where the firmware is to start.
-// In such a run a packet that the comparison lets pass, and that is a success over zeros, is one over 0xFF
-// too: that reply is not looked at, and document 01's number 9 is unused (T-08). `delivery` says what is
-// answered, and what a pass is worth.
+// flash held before. It runs the loader that `card::call` runs on one region, which begins as zeros, and
+// keeps a bit for each of its bytes, set once the byte is known whatever the flash held: an erase makes
+// every byte known, and a write its range. An unknown byte stands as 0, over which only 0 can be written.
+// Where the firmware is to start the region must be the picture, and no byte unknown. `delivery` says
+// what is answered, which is what the runs over 0x00 and over 0xFF give (T-09), and what a pass is worth.
 use loader::Loader;
 use loader::Mode;
+use packet::Command;
 use refusal::Refusal;
 use text_image::Verdict;
 ghost use mathlib.Core.Path.{_≡_};
 ghost use mathlib.Core.Bool.{cond, not, _&&_};
-ghost use Prim.Native.Nat.{_≤_};
+ghost use Prim.Native.Nat.{_*_, _≤_};
+ghost use lib.Dec.{eqb};
 ghost use lib.ListN.{length, replicate};
 ghost use Rattle.firmware_text.specs.Machine.{imageOf};
-ghost use Rattle.region.specs.Same.{same};
-ghost use Rattle.script.specs.Script.{frontOf};
+ghost use Rattle.known_bits.specs.Known.{longestMap, unknownOf};
+ghost use Rattle.packet.specs.Packet.{coreOf, commandOf};
+ghost use Rattle.script.specs.Script.{longestScript, frontOf};
 ghost use Rattle.text_image.specs.Picture.{pictureOf};
 ghost use Rattle.text_image.specs.Rules.{rulesOf, sound};
 ghost use Rattle.ti_txt.specs.Answers.{isPictureOf};
-ghost use Rattle.delivery.specs.Check.{trial, locked, beginsStart, stepOf, endOf, runOf, judgedOf, checkOf};
-ghost use Rattle.delivery.specs.Demand.{Limits, Upholds};
-ghost use Rattle.checker.specs.Answers.{said, answered, stepped};
+ghost use Rattle.delivery.specs.Check.{Trial, trial, locked, beginsStart, stepOf, endOf, found, runOf};
+ghost use Rattle.delivery.specs.Beside.{Learns};
+ghost use Rattle.delivery.specs.Demand.{Upholds};
+ghost use Rattle.delivery.specs.OneRegion.{single, judgedOne, oneOf, LimitsOne};
+ghost use Rattle.checker.specs.Answers.{said, answered, faultOf, nextOf, Tells, Follows};
 
 // The longest script that is checked.
 const LONGEST: usize = 2097152;
@@ -34,17 +39,18 @@ pub enum Answer {
     Refused { refusal: Refusal, place: usize },
 }
 
-// What is said, and the number of packets that succeeded in both runs.
+// What is said, the number of packets that succeeded, and that of the bytes still unknown at the end of
+// the run, which is 0 on pass and for a refusal before the run was begun.
 pub struct Checked {
     pub answer: Answer,
     pub packets: usize,
+    pub unknown: usize,
 }
 
-// What becomes of a packet: it is refused, or both runs went on, the one over zeros and the other, each to
-// its loader's next state.
+// What becomes of a packet: it is refused, or the loader goes on to its next state.
 enum Step {
     Refused(Refusal),
-    Ran { one: Loader, other: Loader },
+    Ran(Loader),
 }
 
 // A refusal at a place.
@@ -71,49 +77,71 @@ fn begins_start(packet: &[u8]) -> bool
     little_endian::byte_at(packet::core(packet), 0) == START
 }
 
-// Whether a packet begins a start while one of the buffers is not the picture of the text: the text is
-// walked for the first, and the second is compared with the first.
-fn starts_too_early(packet: &[u8], text: &[u8], zeros: &[u8], ones: &[u8]) -> bool
-    ensures { λ r. ⌜ r ≡ (beginsStart (now (packet .entry)) && not (isPictureOf (now (text .entry)) (now (zeros .entry)) && same (now (ones .entry)) (now (zeros .entry)))) ⌝ }
+// Whether a packet begins a start while the region is not the picture of the text, or a byte is unknown.
+fn starts_too_early(packet: &[u8], text: &[u8], region: &[u8], known: &[u8]) -> bool
+    ensures { λ r.
+        ⌜ r ≡ (beginsStart (now (packet .entry))
+        && not (isPictureOf (now (text .entry)) (now (region .entry)) && eqb (unknownOf (now (known .entry))) 0)) ⌝ }
 {
     if !begins_start(packet) {
         return false;
     }
-    if !ti_txt::is_picture(text, zeros) {
+    if !ti_txt::is_picture(text, region) {
         return true;
     }
-    !region::same(ones, zeros)
+    known_bits::unknown(known) != 0
 }
 
-// Runs one packet over both buffers, the zeros first: where it is refused there, the other is not touched.
-// The reply over 0xFF decides nothing (T-08), and what the packet leaves there is kept all the same.
+// Sets the bits of what a packet that was a success has made known: all by an erase, its range by a write.
+fn learn(packet: &[u8], known: &mut [u8])
+    ensures { λ _.
+        ⌜ Learns (commandOf (coreOf (now (packet .entry)))) (coreOf (now (packet .entry)))
+        (now (known .entry)) (now (known .exit)) ⌝ }
+{
+    let core = packet::core(packet);
+    match packet::command_of(core) {
+        Command::Password => {}
+        Command::Erase => {
+            region::fill(known, 0xFF);
+        }
+        Command::Write => {
+            let from = packet::address(core);
+            known_bits::mark_range(known, from, core.len() - 5);
+        }
+        Command::RangeChecksum => {}
+        Command::Start => {}
+        Command::Unknown => {}
+    }
+}
+
+// Runs one packet over the region, and learns from it if it is a success. Whatever run over 0xFF stands
+// beside the region, the packet goes as in the two of them.
 fn run_packet(
     packet: &[u8],
     text: &[u8],
     password: &[u8],
-    first: Loader,
-    zeros: &mut [u8],
-    second: Loader,
-    ones: &mut [u8],
+    loader: Loader,
+    region: &mut [u8],
+    known: &mut [u8],
 ) -> Step
-    requires { ⌜ rulesOf (now text) (length (now zeros)) ≡ sound ⌝ }
-    ensures { λ r. ⌜ stepped r first second (now (zeros .exit)) (now (ones .exit)) ≡ stepOf (now (password .entry)) (pictureOf (length (now (zeros .entry))) (imageOf (now (text .entry)))) (now (packet .entry)) (trial first (now (zeros .entry))) (trial second (now (ones .entry))) ⌝ }
+    requires { ⌜ rulesOf (now text) (length (now region)) ≡ sound ⌝ }
+    ensures { λ r.
+        ⌜ ((ones : Trial) → Tells (trial loader (now (region .entry))) ones (now (known .entry))
+        → Follows (stepOf (now (password .entry)) (pictureOf (length (now (region .entry))) (imageOf (now (text .entry))))
+        (now (packet .entry)) (trial loader (now (region .entry))) ones)
+        (faultOf r) (trial (nextOf r loader) (now (region .exit))) (now (known .exit))) ⌝ }
 {
-    if starts_too_early(packet, text, zeros, ones) {
+    if starts_too_early(packet, text, region, known) {
         return Step::Refused(Refusal::PictureDiffers);
     }
-    let over_zeros = loader::receive(first, zeros, password, packet);
-    let zeros_reply = over_zeros.reply;
-    let zeros_loader = over_zeros.loader;
-    if !loader::succeeded(zeros_reply) {
+    let ran = loader::receive(loader, region, password, packet);
+    let reply = ran.reply;
+    let next = ran.loader;
+    if !loader::succeeded(reply) {
         return Step::Refused(Refusal::RefusedOverZeros);
     }
-    let over_ones = loader::receive(second, ones, password, packet);
-    let ones_loader = over_ones.loader;
-    Step::Ran {
-        one: zeros_loader,
-        other: ones_loader,
-    }
+    learn(packet, known);
+    Step::Ran(next)
 }
 
 // The length of the packet that is run next, 0 if none is: the firmware has started, or no whole one is left.
@@ -142,40 +170,56 @@ fn ended(started: bool, rest: &[u8], at: usize) -> Answer
     refuse(Refusal::PacketCut, at)
 }
 
-// Runs the packets of a headed script from locked over a buffer of 0x00 and one of 0xFF.
+// What is answered where a run has come to, by the bits that tell of the two over 0x00 and over 0xFF.
+fn found(answer: Answer, packets: usize, known: &[u8]) -> Checked
+    ensures { λ r.
+        ⌜ ((zeros ones : Trial) → Tells zeros ones (now (known .entry))
+        → answered r (zeros .region) (now (known .entry)) ≡ single (found (said answer) packets zeros ones)) ⌝ }
+{
+    let unknown = known_bits::unknown(known);
+    Checked {
+        answer,
+        packets,
+        unknown,
+    }
+}
+
+// Runs the packets of a headed script from locked over a region of zeros of which nothing is known.
 fn run(
     script: &[u8],
     text: &[u8],
     password: &[u8],
     expected: u16,
-    zeros: &mut [u8],
-    ones: &mut [u8],
+    region: &mut [u8],
+    known: &mut [u8],
 ) -> Checked
-    requires { ⌜ (5 ≤ length (now script)) × (length (now script) ≤ 2097152) × (rulesOf (now text) (length (now zeros)) ≡ sound) × (now zeros ≡ replicate (length (now zeros)) 0x00) × (now ones ≡ replicate (length (now zeros)) 0xFF) ⌝ }
-    ensures { λ r. ⌜ answered r (now (zeros .exit)) (now (ones .exit)) ≡ runOf (now (script .entry)) (pictureOf (length (now (zeros .entry))) (imageOf (now (text .entry)))) (now (password .entry)) expected (length (now (zeros .entry))) ⌝ }
+    requires { ⌜ (5 ≤ length (now script)) × (length (now script) ≤ longestScript)
+        × (rulesOf (now text) (length (now region)) ≡ sound)
+        × (now region ≡ replicate (length (now known) * 8) 0x00)
+        × (now known ≡ replicate (length (now known)) 0x00) × (length (now known) ≤ longestMap) ⌝ }
+    ensures { λ r.
+        ⌜ answered r (now (region .exit)) (now (known .exit))
+        ≡ single (runOf (now (script .entry)) (pictureOf (length (now (region .entry))) (imageOf (now (text .entry))))
+        (now (password .entry)) expected (length (now (region .entry)))) ⌝ }
 {
-    let mut first = locked(expected);
-    let mut second = locked(expected);
+    let mut state = locked(expected);
     let mut at = 5;
     let mut packets = 0;
     loop {
         let rest = &script[at..];
-        let mode = first.mode;
+        let mode = state.mode;
         let started = loader::in_application(mode);
         let length = packet_ahead(started, rest);
         if length == 0 {
-            let answer = ended(started, rest, at);
-            return Checked { answer, packets };
+            return found(ended(started, rest, at), packets, known);
         }
         let end = at + length;
-        match run_packet(&script[at..end], text, password, first, zeros, second, ones) {
+        match run_packet(&script[at..end], text, password, state, region, known) {
             Step::Refused(why) => {
-                let answer = refuse(why, at);
-                return Checked { answer, packets };
+                return found(refuse(why, at), packets, known);
             }
-            Step::Ran { one, other } => {
-                first = one;
-                second = other;
+            Step::Ran(next) => {
+                state = next;
                 at = end;
                 packets = packets + 1;
             }
@@ -189,18 +233,20 @@ fn judge(
     text: &[u8],
     password: &[u8],
     size: usize,
-    zeros: &[u8],
-    ones: &[u8],
+    region: &[u8],
+    known: &[u8],
 ) -> Answer
-    ensures { λ r. ⌜ said r ≡ judgedOf (now (script .entry)) (now (text .entry)) (now (password .entry)) size (length (now (zeros .entry))) (length (now (ones .entry))) ⌝ }
+    ensures { λ r.
+        ⌜ said r ≡ judgedOne (now (script .entry)) (now (text .entry)) (now (password .entry)) size
+        (length (now (region .entry))) (length (now (known .entry))) ⌝ }
 {
     if !region::size_good(size) {
         return refuse(Refusal::RegionSize, 0);
     }
-    if zeros.len() != size {
+    if region.len() != size {
         return refuse(Refusal::RegionSize, 0);
     }
-    if ones.len() != size {
+    if known.len() != size / 8 {
         return refuse(Refusal::RegionSize, 0);
     }
     if password.len() != 256 {
@@ -221,30 +267,41 @@ fn judge(
 }
 
 // Whether the script puts the image of the text into every card with that password and expected checksum.
+// The memory that is lent is a region of that size, and an eighth of it for the known bits.
 pub fn check(
     script: &[u8],
     text: &[u8],
     password: &[u8],
     expected: u16,
     size: usize,
-    zeros: &mut [u8],
-    ones: &mut [u8],
+    region: &mut [u8],
+    known: &mut [u8],
 ) -> Checked
-    ensures answer { λ r. ⌜ answered r (now (zeros .exit)) (now (ones .exit)) ≡ checkOf (now (script .entry)) (now (text .entry)) (now (password .entry)) expected size (now (zeros .entry)) (now (ones .entry)) ⌝ }
-    ensures demand3 { λ r. ⌜ (Limits (now (script .entry)) (now (text .entry)) (now (password .entry)) size (now (zeros .entry)) (now (ones .entry)) → Upholds (now (script .entry)) (now (text .entry)) (now (password .entry)) expected size (said (r .answer))) ⌝ }
+    ensures answer { λ r.
+        ⌜ answered r (now (region .exit)) (now (known .exit))
+        ≡ oneOf (now (script .entry)) (now (text .entry)) (now (password .entry)) expected size
+        (now (region .entry)) (now (known .entry)) ⌝ }
+    ensures demand3 { λ r.
+        ⌜ (LimitsOne (now (script .entry)) (now (text .entry)) (now (password .entry)) size
+        (now (region .entry)) (now (known .entry))
+        → Upholds (now (script .entry)) (now (text .entry)) (now (password .entry)) expected size (said (r .answer))) ⌝ }
 {
-    match judge(script, text, password, size, zeros, ones) {
+    match judge(script, text, password, size, region, known) {
         Answer::Refused {
             refusal: why,
             place,
         } => {
             let answer = refuse(why, place);
-            Checked { answer, packets: 0 }
+            Checked {
+                answer,
+                packets: 0,
+                unknown: 0,
+            }
         }
         Answer::Passed => {
-            region::fill(zeros, 0x00);
-            region::fill(ones, 0xFF);
-            run(script, text, password, expected, zeros, ones)
+            region::fill(region, 0x00);
+            region::fill(known, 0x00);
+            run(script, text, password, expected, region, known)
         }
     }
 }

@@ -7,21 +7,21 @@ use vector_lines::packets;
 pub struct Setup {
     // document 01's N
     pub size: usize,
-    // the lengths of the two trial buffers and of the password
-    pub zeros: usize,
-    pub ones: usize,
+    // the lengths of the region, of the known bits and of the password
+    pub region: usize,
+    pub known: usize,
     pub password: usize,
     // whether the expected checksum is the picture's own, and the other one that is expected if not
     pub own: bool,
     pub other: u16,
 }
 
-// A region of 4,096 bytes, two buffers of its size and a whole password.
+// A region of 4,096 bytes, a bit for each of them and a whole password.
 fn start() -> Setup {
     Setup {
         size: 4096,
-        zeros: 4096,
-        ones: 4096,
+        region: 4096,
+        known: 512,
         password: 256,
         own: true,
         other: 0,
@@ -32,8 +32,8 @@ fn start() -> Setup {
 fn sized(size: usize, setup: Setup) -> Setup {
     let mut changed = setup;
     changed.size = size;
-    changed.zeros = size;
-    changed.ones = size;
+    changed.region = size;
+    changed.known = size / 8;
     changed
 }
 
@@ -52,11 +52,11 @@ fn set(name: &[u8], value: &[u8], setup: Setup) -> Setup {
     if same(name, b"size") {
         changed = sized(number.value, setup);
     }
-    if same(name, b"zeros") {
-        changed.zeros = number.value;
+    if same(name, b"region") {
+        changed.region = number.value;
     }
-    if same(name, b"ones") {
-        changed.ones = number.value;
+    if same(name, b"known") {
+        changed.known = number.value;
     }
     if same(name, b"password") {
         changed.password = number.value;

@@ -1,15 +1,15 @@
 -- Three runs, address by address: one over zeros, one over 0xFF and any other have the same byte (known), or 0x00, 0xFF and anything (untouched).
 -- Assumes nothing.
 use mathlib.Core.Path.{_≡_, refl, sym, ap}
-use mathlib.Core.Bool.{true}
+use mathlib.Core.Bool.{true, false, false≢true}
 use mathlib.Core.List.{List, [], _∷_, _++_, head-eq-of-cons-eq, tail-eq-of-cons-eq}
 use Prim.Native.Nat.{ℕ, zero, suc, _+_, _≤_}
 use native.Mathlib.Nat.{suc-inj, suc-ne-zero}
 use native.Mathlib.Omega.{arith}
-use borrow.Author.Tests.{eqb-true, eq-eqb}
+use borrow.Author.Tests.{eqb-true, eqb-false, eq-eqb}
 use lib.Bits.{bitAnd, and-zero-r}
 use lib.Dec.{eqb}
-use lib.ListN.{length, take, drop, replicate}
+use lib.ListN.{length, getD, take, drop, replicate}
 use Rattle.flash.specs.Flash.{writable}
 use Rattle.little_endian.specs.Bytes.{storedAt}
 use Rattle.little_endian.proofs.Stored.{stored-between}
@@ -73,6 +73,22 @@ agree-equal (untouched a) h = absurd (differ (head-eq-of-cons-eq h))
   where
     differ : _≡_ {A = ℕ} 0x00 0xFF → ⊥
     differ e = omega arith
+
+-- where the runs over zeros and over 0xFF differ, the first has 0x00
+pub agree-unknown : {z f r : List ℕ} → Agree z f r → (a : ℕ) → eqb (getD z a 0) (getD f a 0) ≡ false → getD z a 0 ≡ 0
+agree-unknown nothing a e = refl
+agree-unknown (known {x = x} t) zero e = absurd (eqb-false x x e refl)
+agree-unknown (known t) (suc a) e = agree-unknown t a e
+agree-unknown (untouched t) zero e = refl
+agree-unknown (untouched t) (suc a) e = agree-unknown t a e
+
+-- and where they have the same byte, so has any other
+pub agree-known : {z f r : List ℕ} → Agree z f r → (a : ℕ) → eqb (getD z a 0) (getD f a 0) ≡ true → getD r a 0 ≡ getD z a 0
+agree-known nothing a e = refl
+agree-known (known t) zero e = refl
+agree-known (known t) (suc a) e = agree-known t a e
+agree-known (untouched t) zero e = absurd (false≢true e)
+agree-known (untouched t) (suc a) e = agree-known t a e
 
 -- what may be written over the run over zeros may be written over any: a 0x00 takes only 0, and 0 goes over anything
 pub writable-other : {z f r : List ℕ} → Agree z f r → (new : List ℕ) → writable z new ≡ true → writable r new ≡ true

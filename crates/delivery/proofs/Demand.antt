@@ -6,16 +6,15 @@ use mathlib.Core.List.{List, []}
 use Prim.Native.Nat.{ℕ, _<_}
 use native.Mathlib.Nat.{le-refl}
 use native.Mathlib.Omega.{arith}
-use borrow.Author.Tests.{eq-eqb, le-ltb, ltb-true, ltb-false}
-use lib.Dec.{ltb}
-use lib.ListN.{length, drop, getD, replicate, length-replicate, getD-replicate, List·getD-eq-default}
+use borrow.Author.Tests.{eq-eqb, le-ltb}
+use lib.ListN.{length, drop, replicate, length-replicate}
 use lib.Seq.{sets}
 use Rattle.card.specs.declared.Card.{Card}
 use Rattle.crc.specs.Crc.{checksumOf}
 use Rattle.firmware_text.specs.Machine.{imageOf}
 use Rattle.firmware_text.proofs.Orders.{image-in-order, image-starts}
 use Rattle.firmware_text.proofs.Values.{image-valued}
-use Rattle.little_endian.specs.Bytes.{Bytes}
+use Rattle.little_endian.proofs.AllBytes.{bytes-all, bytes-filled}
 use Rattle.planner.proofs.Plans.{plans-right}
 use Rattle.region.specs.Size.{goodSize}
 use Rattle.script.specs.Page.{Range, pageScript, Inside, ByTheRules}
@@ -38,21 +37,13 @@ use Rattle.delivery.proofs.Page.{page-does}
 
 -- ---- exactly when
 
--- a region of one byte, again and again
-filled-bytes : (n b : ℕ) → b < 256 → Bytes (replicate n b)
-filled-bytes n b small i = go (ltb i n) refl
-  where
-    go : (t : Bool) → ltb i n ≡ t → getD (replicate n b) i 0 < 256
-    go true h = rw (getD-replicate n i b 0 (ltb-true i n h)) small
-    go false h = rw (List·getD-eq-default (replicate n b) 0 {n = i} (rw (length-replicate n b) (ltb-false i n h))) (omega arith)
-
 module _ (script password : List ℕ) (expected n : ℕ) (good : goodSize n ≡ true) (wide : length password ≡ 256) (picture : List ℕ) where
   -- the trial run over one byte
   abbrev over : ℕ → Trial
   over b = trial (locked expected) (replicate n b)
 
   entered : (b : ℕ) → b < 256 → Entered n expected (cardOf (locked expected)) (replicate n b)
-  entered b small = record { is-locked = refl; expects = refl; sized = length-replicate n b; bytes = filled-bytes n b small }
+  entered b small = record { is-locked = refl; expects = refl; sized = length-replicate n b; bytes = bytes-all (replicate n b) (bytes-filled n b small) }
 
   -- reply buffers of nine bytes
   nine : ℕ → List ℕ

@@ -11,3 +11,6 @@ pub mod Counts
 pub mod Apart
 pub mod Accepted
 pub mod Unused
+pub mod Ends
+pub mod Learns
+pub mod OneRegion

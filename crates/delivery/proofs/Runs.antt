@@ -125,3 +125,9 @@ module _ (password picture : List ℕ) (zeros ones : Trial) (at n : ℕ) (rest :
       → runFrom (stepOf password picture) zeros ones at n rest (packet ∷ packets) ≡ found (endOf true bytes at) n zeros ones
   unfolding runFrom endOf
   run-started packet packets started bytes some = rw (started, some, runFrom, endOf) refl
+
+  -- it is refused
+  pub run-behind : (packet : List ℕ) (packets : List (List ℕ)) → isApplication (zeros .loader .mode) ≡ true
+      → runFrom (stepOf password picture) zeros ones at n rest (packet ∷ packets) ≡ found (refused 11 at) n zeros ones
+  unfolding runFrom
+  run-behind packet packets started = rw (started, runFrom) refl

@@ -63,7 +63,7 @@ module _ (loader : Loader) {z f r : List ℕ} (a : Agree z f r) where
   password-alike false ok = absurd (false≢true ok)
 
   -- a write that is a success was done
-  write-done : (t : Bool) (new : List ℕ) → Ok (writeSaid loader (cond t (written true new) (written false z))) → t ≡ true
+  pub write-done : (t : Bool) (new : List ℕ) → Ok (writeSaid loader (cond t (written true new) (written false z))) → t ≡ true
   write-done true new ok = refl
   write-done false new ok = absurd (false≢true ok)
 

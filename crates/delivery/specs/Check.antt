@@ -1,4 +1,5 @@
--- The checker (document 01, "Scripts, planner, checker", "Refusal numbers").
+-- Document 01's checker with two trial buffers ("Scripts, planner, checker", "Refusal numbers"). No code runs it: T-09's, with one region,
+-- is defined from it and compared with it (`OneRegion.antt`).
 -- Assumes nothing.
 use mathlib.Core.Bool.{Bool, true, false, cond, not, _&&_}
 use mathlib.Core.List.{List, [], _∷_}

@@ -1,4 +1,6 @@
--- Demand 3: what a pass of the checker is worth, as one statement about the list of loader calls.
+-- Demand 3: what a pass of the checker is worth, as one statement about the list of loader calls. Here it is said of document 01's checker
+-- with two
+-- trial buffers; `Demand3One` says the same of T-09's, with one region (`OneRegion.antt`).
 -- Assumes nothing.
 use mathlib.Core.Bool.{true}
 use mathlib.Core.List.{List}
@@ -30,8 +32,10 @@ pub record Limits (script text password : List ℕ) (n : ℕ) (zeros ones : List
 pub record Upholds (script text password : List ℕ) (expected n : ℕ) (answer : Said) : Type 0 where
   -- it passes the bytes exactly when they are a script that puts the picture into every card
   pub exactly : (answer ≡ passed) ↔ Works script (pictureOf n (imageOf text)) password expected n
-  -- and it passes every script written by the page's own rules for that image, if it carries that password, the expected checksum is the image's and the entry address lies in the region
-  pub page : (entry : ℕ) → ByTheRules n (imageOf text) password entry script → checksumOf (pictureOf n (imageOf text)) ≡ expected → entry < n → answer ≡ passed
+  -- and it passes every script written by the page's own rules for that image, if it carries that password, the expected checksum is the
+  -- image's and the entry address lies in the region
+  pub page : (entry : ℕ) → ByTheRules n (imageOf text) password entry script → checksumOf (pictureOf n (imageOf text)) ≡ expected
+      → entry < n → answer ≡ passed
 
 -- demand 3: so it is of every check within the limits
 abbrev pub Demand3 : Type 0
@@ -44,4 +48,5 @@ abbrev pub PlannedPasses : Type 0
 PlannedPasses =
     (text password : List ℕ) (entry n : ℕ) (output : List ℕ) (count : ℕ) (zeros ones : List ℕ) → length zeros ≡ n → length ones ≡ n
     → planOf text password entry n output .answer ≡ planned count
-    → checkOf (take count (planOf text password entry n output .output)) text password (checksumOf (pictureOf n (imageOf text))) n zeros ones .answer ≡ passed
+    → checkOf (take count (planOf text password entry n output .output)) text password
+    (checksumOf (pictureOf n (imageOf text))) n zeros ones .answer ≡ passed

@@ -4,3 +4,4 @@ pub mod Demand
 pub mod Beside
 pub mod Meaning
 pub mod Accepted
+pub mod OneRegion

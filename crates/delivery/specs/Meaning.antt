@@ -1,4 +1,4 @@
--- What the checker's number and its two buffers are (document 01, "Scripts, planner, checker").
+-- What the number and the two buffers of document 01's checker are ("Scripts, planner, checker").
 -- Assumes nothing.
 use mathlib.Core.Bool.{true}
 use mathlib.Core.List.{List, [], _∷_}

@@ -23,3 +23,10 @@ pub fn region_room() -> [u8; 266240]
 {
     [0; 266240]
 }
+
+// Room for the known bits of such a region, a bit for each of its bytes.
+pub fn known_room() -> [u8; 33280]
+    ensures { λ r. ⌜ 33280 ≡ length r ⌝ }
+{
+    [0; 33280]
+}

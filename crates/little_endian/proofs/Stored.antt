@@ -1,15 +1,15 @@
 -- Laws of bytes stored at a place: as a lent part comes back, and one store behind another.
 -- Assumes nothing.
 use mathlib.Core.Path.{_≡_, refl, sym, ap, ap₂, _∙_}
-use mathlib.Core.Bool.{Bool, true, false}
+use mathlib.Core.Bool.{Bool, true, false, _&&_}
 use mathlib.Core.List.{List, [], _∷_, _++_, append-nil, append-assoc}
 use Prim.Native.Nat.{ℕ, _+_, _-_, _≤_, _<_}
 use native.Mathlib.Nat.{add-assoc, add-zero}
 use native.Mathlib.Omega.{arith}
-use borrow.Author.Tests.{le-leb, lt-leb, leb-true, leb-false}
-use lib.Dec.{leb}
-use lib.ListN.{length, take, drop, length-append, length-drop, drop-of-length-le, take-append-drop}
-use lib.Seq.{take-all, take-at, drop-at, take-length, drop-drop, drop-append-add, length-take-le}
+use borrow.Author.Tests.{le-leb, lt-leb, leb-true, leb-false, ltb-false}
+use lib.Dec.{leb, ltb}
+use lib.ListN.{length, getD, take, drop, length-append, length-drop, drop-of-length-le, take-append-drop, List·getD-append}
+use lib.Seq.{take-all, take-at, drop-at, take-length, drop-drop, drop-append-add, length-take-le, getD-take, getD-drop, getD-append-add}
 use Rattle.little_endian.specs.Bytes.{storedAt, putBehind, joined}
 
 module _ (at : ℕ) (new old : List ℕ) (fits : at + length new ≤ length old) where
@@ -98,3 +98,43 @@ in-turn at (x ∷ xs) old fits =
     let room : at + (length x + length (joined xs)) ≤ length old = rw (← length-append x (joined xs)) fits in
     in-turn (at + length x) xs (storedAt at x old) (rw (stored-length at x old (omega arith)) (omega arith))
     ∙ stored-joined at x (joined xs) old room
+
+-- ---- byte by byte
+
+module _ (at : ℕ) (new old : List ℕ) (a : ℕ) (fits : at + length new ≤ length old) where
+  -- the three parts, and where the second begins
+  abbrev parts : List ℕ
+  parts = take at old ++ (new ++ drop (at + length new) old)
+
+  long : length (take at old) ≡ at
+  long = length-take-le at old (omega arith)
+
+  part : getD (storedAt at new old) a 0 ≡ getD parts a 0
+  part = ap (λ (l : List ℕ). getD l a 0) (stored-between at new old fits)
+
+  behind-first : at ≤ a → getD parts a 0 ≡ getD (new ++ drop (at + length new) old) (a - at) 0
+  behind-first past =
+      let place : a ≡ length (take at old) + (a - at) = rw long (omega arith) in
+      ap (λ (m : ℕ). getD parts m 0) place ∙ getD-append-add (take at old) (new ++ drop (at + length new) old) (a - at) 0
+
+  -- a new byte
+  pub stored-inside : at ≤ a → a < at + length new → getD (storedAt at new old) a 0 ≡ getD new (a - at) 0
+  stored-inside low high = part ∙ behind-first low ∙ List·getD-append new (drop (at + length new) old) 0 (a - at) (omega arith)
+
+  -- one that stays
+  pub stored-outside : (leb at a && ltb a (at + length new)) ≡ false → getD (storedAt at new old) a 0 ≡ getD old a 0
+  stored-outside outside = go (leb at a) refl outside
+    where
+      go : (t : Bool) → leb at a ≡ t → (t && ltb a (at + length new)) ≡ false → getD (storedAt at new old) a 0 ≡ getD old a 0
+      go true e o =
+          let low : at ≤ a = leb-true _ _ e in
+          let past : at + length new ≤ a = ltb-false _ _ o in
+          let place : a - at ≡ length new + (a - at - length new) = omega arith in
+          let back : at + length new + (a - at - length new) ≡ a = omega arith in
+          part ∙ behind-first low ∙ ap (λ (m : ℕ). getD (new ++ drop (at + length new) old) m 0) place
+          ∙ getD-append-add new (drop (at + length new) old) (a - at - length new) 0
+          ∙ getD-drop (at + length new) old (a - at - length new) 0
+          ∙ ap (λ (m : ℕ). getD old m 0) back
+      go false e o =
+          let before : a < at = leb-false _ _ e in
+          part ∙ List·getD-append (take at old) (new ++ drop (at + length new) old) 0 a (omega (arith, before, long)) ∙ getD-take at old a 0 before

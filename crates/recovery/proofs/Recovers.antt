@@ -16,7 +16,7 @@ use Rattle.card.specs.declared.Card.{Card}
 use Rattle.card.proofs.Laws.{call-keeps}
 use Rattle.crc.specs.Crc.{checksumOf}
 use Rattle.delivery.specs.Sending.{packetsIn, Call, Lent, callsOf, regionAfter, OnlyLastStarts, Delivers, Entered, Works}
-use Rattle.delivery.proofs.Demand.{demand3}
+use Rattle.delivery.proofs.OneRegion.{demand3-one}
 use Rattle.firmware_text.specs.Machine.{imageOf}
 use Rattle.little_endian.specs.Bytes.{Bytes}
 use Rattle.little_endian.proofs.AllBytes.{AllBytes, all-bytes, bytes-all}
@@ -146,7 +146,7 @@ ends card (c ∷ []) some last = is-application _ (both (isUnlocked (c .met)) (i
 ends card (c ∷ d ∷ calls) some last = ends (c .gave .card) (d ∷ calls) cons≢nil (last .1)
 
 pub recovers : Recovers
-recovers script text password expected n zeros ones l pass card region en attempts possible buffer uncut roomy roomy′ =
+recovers script text password expected n lent-region known l pass card region en attempts possible buffer uncut roomy roomy′ =
     record {
       entered = all .0;
       delivers = d;
@@ -166,10 +166,10 @@ recovers script text password expected n zeros ones l pass card region en attemp
     afresh = sending n password packets buffer packets h
 
     all : Entered n expected (h .card) (h .region) × NeverIn n password packets expected attempts (held card region)
-    all = all-again n (l .size) password (l .wide) packets expected attempts (held card region) en possible
+    all = all-again n (l .within .size) password (l .within .wide) packets expected attempts (held card region) en possible
 
     w : Works script (pictureOf n (imageOf text)) password expected n
-    w = demand3 script text password expected n zeros ones l .exactly .0 pass
+    w = demand3-one script text password expected n lent-region known l .exactly .0 pass
 
     d : Delivers (pictureOf n (imageOf text)) (h .region) afresh
     d = w .delivers (h .card) (h .region) (all .0) buffer roomy

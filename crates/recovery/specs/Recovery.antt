@@ -12,8 +12,8 @@ use Rattle.crc.specs.Crc.{checksumOf}
 use Rattle.firmware_text.specs.Machine.{imageOf}
 use Rattle.loader.specs.Loader.{isApplication}
 use Rattle.text_image.specs.Picture.{pictureOf}
-use Rattle.delivery.specs.Check.{passed, checkOf}
-use Rattle.delivery.specs.Demand.{Limits}
+use Rattle.delivery.specs.Check.{passed}
+use Rattle.delivery.specs.OneRegion.{LimitsOne, oneOf}
 use Rattle.delivery.specs.Sending.{packetsIn, Call, callsOf, regionAfter, Delivers, Entered, Roomy}
 
 -- a card and its region
@@ -135,13 +135,14 @@ module _ (n : ℕ) (password : List ℕ) (packets : List (List ℕ)) where
       pub never-before : NeverIn sum attempts h
       pub never-after : UpOnlyWith sum afresh
 
--- T-07: so it is of every script that the checker passes, cut any number of times, at any moments. A cut between a restart
--- and 0x32 is followed by another restart, which changes nothing (`restart-twice` of `card`).
+-- T-07: so it is of every script that the checker passes, with the region and the known bits that it is lent (T-09), cut any number of
+-- times, at any moments. A cut between a restart and 0x32 is followed by another restart, which changes nothing (`restart-twice` of
+-- `card`).
 -- What a cut leaves is fixed by `leftBy` of `power_cut`: this claim asks of it only that the region stays n bytes
 abbrev pub Recovers : Type 0
 Recovers =
-    (script text password : List ℕ) (expected n : ℕ) (zeros ones : List ℕ) → Limits script text password n zeros ones
-    → checkOf script text password expected n zeros ones .answer ≡ passed
+    (script text password : List ℕ) (expected n : ℕ) (lent known : List ℕ) → LimitsOne script text password n lent known
+    → oneOf script text password expected n lent known .answer ≡ passed
     → (card : Card) (region : List ℕ) → Entered n expected card region
     → (attempts : List Attempt) → AllPossible n password (packetsIn script) attempts (held card region)
     → (buffer uncut : ℕ → List ℕ) → Roomy buffer → Roomy uncut

@@ -5,7 +5,7 @@ ghost use mathlib.Core.Path.{_≡_};
 ghost use Rattle.refusal.specs.Refusal.{numberOf};
 
 pub enum Refusal {
-    // N is bad, or a region or trial buffer is not N long.
+    // N is bad, or a region is not N long, or its known bits are not N/8.
     RegionSize,
     // The password is not 256 bytes.
     PasswordLength,
@@ -25,7 +25,7 @@ pub enum Refusal {
     ScriptHead,
     // The script ends inside a packet.
     PacketCut,
-    // A trial buffer is not the picture at a start.
+    // The region is not the picture at a start, or a byte of it is unknown.
     PictureDiffers,
     // A packet is refused over zeros.
     RefusedOverZeros,

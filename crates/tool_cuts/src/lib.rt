@@ -1,6 +1,7 @@
 // `cuts`: how a card comes up if the power fails while a script is sent to it, packet by packet. The regions that cuts
 // leave, and the restart, are those of the proved model of the card.
 use arguments::Options;
+use byte_parts::front;
 use byte_parts::front_mut;
 use files::Reading;
 use loader::Loader;
@@ -206,14 +207,15 @@ fn print(
 }
 
 // Says of a script that passes that it does, and how a card comes up from cuts, if the region that it held can be read.
+// The text has so many bytes; once it is done with, its room is the second region that cuts take.
 pub fn say(
     options: Options,
     script: &[u8],
-    text: &[u8],
+    text: &mut [u8],
+    length: usize,
     password: &[u8],
     behind: Behind,
     room: &mut [u8],
-    other: &mut [u8],
 ) {
     let size = options.size;
     let Reading::Held(n) = read_region(options, room) else {
@@ -223,7 +225,7 @@ pub fn say(
         refused(n, size);
         return;
     }
-    tool_verdict::passed(script, text, behind);
+    tool_verdict::passed(script, front(text, length), behind);
     let region = front_mut(room, size);
     print(
         options,
@@ -231,6 +233,6 @@ pub fn say(
         password,
         behind.expected,
         region,
-        front_mut(other, size),
+        front_mut(text, size),
     );
 }

@@ -10,10 +10,11 @@ use tool_words::lines;
 use tool_words::packets;
 use tool_words::place;
 
-// A script that was run as far as it succeeded: the number of its packets that did, and the checksum that
-// was expected.
+// A script that was run as far as it succeeded: the number of its packets that did, that of the bytes still unknown
+// then, and the checksum that was expected.
 pub struct Behind {
     pub packets: usize,
+    pub unknown: usize,
     pub expected: u16,
 }
 
@@ -88,8 +89,20 @@ pub fn passed(script: &[u8], text: &[u8], behind: Behind) {
         .print();
 }
 
-// Says that a script is refused: why, where, what the loader answers there over the region that the check left, and how
-// many packets succeeded.
+// Says how many bytes were still unknown where a run ended. A refusal before the run leaves nothing to say.
+fn unknown(refusal: Refusal, bytes: usize) {
+    match refusal {
+        Refusal::PacketCut
+        | Refusal::RefusedOverZeros
+        | Refusal::PictureDiffers
+        | Refusal::BytesAfterStart
+        | Refusal::NotStarted => lines::number(b"bytes still unknown ", bytes),
+        _ => {}
+    }
+}
+
+// Says that a script is refused: why, where, what the loader answers there over the region that the check left, how
+// many packets succeeded, and how many bytes were still unknown.
 pub fn refused(
     script: &[u8],
     text: &[u8],
@@ -104,4 +117,5 @@ pub fn refused(
     let packet = packets::packet_at(script, at);
     explained(refusal, packet, password, behind, region);
     lines::number(b"packets that succeeded ", behind.packets);
+    unknown(refusal, behind.unknown);
 }

@@ -17,7 +17,7 @@ no script: its mark or version is wrong
 the script ends inside a packet
 a packet is refused over zeros
 no refusal
-the region is not the image's picture at a start
+the region is not the image's picture at a start, or bytes of it are unknown
 bytes follow after the firmware started
 the script ends and the firmware has not started
 the output is too short

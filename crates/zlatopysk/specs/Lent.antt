@@ -1,12 +1,12 @@
 -- What the public functions leave in lent memory, for programs in C and Rust: the answer's numbers, and every lent byte
--- (document 01, "What the contracts must say"; document 02, T-07).
+-- (document 01, "What the contracts must say"; document 02, T-07, T-09).
 -- Assumes nothing.
 use mathlib.Core.List.{List}
 use Prim.Native.Nat.{ℕ}
 use lib.ListN.{getD}
 use Rattle.ti_txt.specs.Answers.{Outcome}
 use Rattle.planner.specs.Plan as plan
-use Rattle.delivery.specs.Check.{Checked}
+use Rattle.delivery.specs.OneRegion.{One}
 use Rattle.application.specs.declared.Version.{Version}
 use Rattle.card.specs.Call.{After}
 use Rattle.card.specs.Mains.{Cut, Restart}
@@ -43,9 +43,9 @@ readLeft o = left (readNumbers (o .answer)) (o .region)
 abbrev pub planLeft : plan.Left → Left
 planLeft l = left (planNumbers (l .answer)) (l .output)
 
--- the checker: its answer, and the two trial buffers
-abbrev pub checkLeft : Checked → LeftBoth
-checkLeft c = leftBoth (checkNumbers (c .answer) (c .packets)) (c .zeros) (c .ones)
+-- the checker: its answer, the region and its known bits
+abbrev pub checkLeft : One → LeftBoth
+checkLeft c = leftBoth (checkNumbers (c .answer) (c .packets) (c .unknown)) (c .region) (c .known)
 
 -- the version of three bytes xx, yy, zz
 abbrev pub versionOf : List ℕ → Version

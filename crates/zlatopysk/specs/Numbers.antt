@@ -1,5 +1,5 @@
 -- The answers of the public functions as numbers, for programs in C and Rust
--- (document 01, "Refusal numbers", "The loader"; document 02, T-07).
+-- (document 01, "Refusal numbers", "The loader"; document 02, T-07, T-09).
 -- Assumes nothing.
 use mathlib.Core.Bool.{cond}
 use mathlib.Core.List.{List, [], _∷_}
@@ -28,10 +28,10 @@ abbrev pub planNumbers : plan.Said → List ℕ
 planNumbers (plan.refused number place) = numbers number place 0
 planNumbers (plan.planned length) = numbers 0 0 length
 
--- the checker's answer; the count is that of the packets that succeeded in both runs
-abbrev pub checkNumbers : check.Said → ℕ → List ℕ
-checkNumbers check.passed packets = numbers 0 0 packets
-checkNumbers (check.refused number place) packets = numbers number place packets
+-- the checker's answer, four numbers: the refusal's, 0 for none; its place; how many packets succeeded; how many bytes are still unknown
+abbrev pub checkNumbers : check.Said → (packets unknown : ℕ) → List ℕ
+checkNumbers check.passed packets unknown = 0 ∷ 0 ∷ packets ∷ unknown ∷ []
+checkNumbers (check.refused number place) packets unknown = number ∷ place ∷ packets ∷ unknown ∷ []
 
 -- a mode's number
 abbrev pub modeNumber : Mode → ℕ
@@ -43,7 +43,8 @@ modeNumber Unlocked = 2
 unfoldable pub modeOf : ℕ → Mode
 modeOf n = cond (eqb n 0) Application (cond (eqb n 2) Unlocked Locked)
 
--- a call's answer, four numbers: the refusal's, 0 for none; how many bytes the reply has; 1 if it is document 01's success, else 0; the mode's number behind the call
+-- a call's answer, four numbers: the refusal's, 0 for none; how many bytes the reply has; 1 if it is document 01's success, else 0; the
+-- mode's number behind the call
 abbrev pub callNumbers : call.Said → Mode → List ℕ
 callNumbers (call.refused number) mode = number ∷ 0 ∷ 0 ∷ modeNumber mode ∷ []
 callNumbers (call.replied count success) mode = 0 ∷ count ∷ cond success 1 0 ∷ modeNumber mode ∷ []

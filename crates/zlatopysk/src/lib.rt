@@ -13,7 +13,7 @@ ghost use mathlib.Core.Path.{_≡_};
 ghost use Rattle.crc.specs.Crc.{checksumOf};
 ghost use Rattle.ti_txt.specs.Answers.{readOf};
 ghost use Rattle.planner.specs.Plan.{planOf};
-ghost use Rattle.delivery.specs.Check.{checkOf};
+ghost use Rattle.delivery.specs.OneRegion.{oneOf};
 ghost use Rattle.card.specs.Call.{callOf};
 ghost use Rattle.card.specs.Mains.{cutOf, restartOf};
 ghost use Rattle.sensor_record.specs.Answers as records;
@@ -49,7 +49,9 @@ pub extern "C" fn zlatopysk_plan(
     out: &mut [u8],
     answer: &mut [u64; 3],
 )
-    ensures { λ _. ⌜ left (now (answer .exit)) (now (out .exit)) ≡ planLeft (planOf (now (text .entry)) (now (password .entry)) entry size (now (out .entry))) ⌝ }
+    ensures { λ _.
+        ⌜ left (now (answer .exit)) (now (out .exit))
+        ≡ planLeft (planOf (now (text .entry)) (now (password .entry)) entry size (now (out .entry))) ⌝ }
 {
     let planned = planner::plan(text, password, entry, size, out);
     *answer = numbers::of_plan(planned);
@@ -63,13 +65,16 @@ pub extern "C" fn zlatopysk_check(
     password: &[u8],
     expected: u16,
     size: usize,
-    zeros: &mut [u8],
-    ones: &mut [u8],
-    answer: &mut [u64; 3],
+    region: &mut [u8],
+    known: &mut [u8],
+    answer: &mut [u64; 4],
 )
-    ensures { λ _. ⌜ leftBoth (now (answer .exit)) (now (zeros .exit)) (now (ones .exit)) ≡ checkLeft (checkOf (now (script .entry)) (now (text .entry)) (now (password .entry)) expected size (now (zeros .entry)) (now (ones .entry))) ⌝ }
+    ensures { λ _.
+        ⌜ leftBoth (now (answer .exit)) (now (region .exit)) (now (known .exit))
+        ≡ checkLeft (oneOf (now (script .entry)) (now (text .entry)) (now (password .entry)) expected size
+        (now (region .entry)) (now (known .entry))) ⌝ }
 {
-    let checked = checker::check(script, text, password, expected, size, zeros, ones);
+    let checked = checker::check(script, text, password, expected, size, region, known);
     *answer = numbers::of_check(checked);
 }
 
@@ -106,7 +111,10 @@ pub extern "C" fn zlatopysk_call(
     reply: &mut [u8],
     called: &mut [u64; 4],
 )
-    ensures { λ _. ⌜ leftBoth (now (called .exit)) (now (region .exit)) (now (reply .exit)) ≡ callLeft (callOf (cardOf mode expected (now (version .entry)) (now («record» .entry))) size (now (region .entry)) (now (password .entry)) (now (message .entry)) (now (reply .entry))) ⌝ }
+    ensures { λ _.
+        ⌜ leftBoth (now (called .exit)) (now (region .exit)) (now (reply .exit))
+        ≡ callLeft (callOf (cardOf mode expected (now (version .entry)) (now («record» .entry))) size
+        (now (region .entry)) (now (password .entry)) (now (message .entry)) (now (reply .entry))) ⌝ }
 {
     let card = card_of(mode, expected, version, record);
     let after = card::call(card, size, region, password, message, reply);
@@ -129,7 +137,10 @@ pub extern "C" fn zlatopysk_cut(
     place: usize,
     answer: &mut [u64; 3],
 )
-    ensures { λ _. ⌜ left (now (answer .exit)) (now (region .exit)) ≡ cutLeft (cutOf (cardOf mode expected (now (version .entry)) (now («record» .entry))) size (now (region .entry)) (now (password .entry)) (now (message .entry)) place) ⌝ }
+    ensures { λ _.
+        ⌜ left (now (answer .exit)) (now (region .exit))
+        ≡ cutLeft (cutOf (cardOf mode expected (now (version .entry)) (now («record» .entry))) size
+        (now (region .entry)) (now (password .entry)) (now (message .entry)) place) ⌝ }
 {
     let card = card_of(mode, expected, version, record);
     let ended = card::cut(card, size, region, password, message, place);
@@ -147,7 +158,10 @@ pub extern "C" fn zlatopysk_restart(
     region: &[u8],
     restarted: &mut [u64; 2],
 )
-    ensures { λ _. ⌜ now (restarted .exit) ≡ restartLeft (restartOf (cardOf mode expected (now (version .entry)) (now («record» .entry))) size (now (region .entry))) ⌝ }
+    ensures { λ _.
+        ⌜ now (restarted .exit)
+        ≡ restartLeft (restartOf (cardOf mode expected (now (version .entry)) (now («record» .entry))) size
+        (now (region .entry))) ⌝ }
 {
     let card = card_of(mode, expected, version, record);
     let after = card::restart(card, size, region);
@@ -159,7 +173,9 @@ pub extern "C" fn zlatopysk_restart(
 // The values of a card's sensor record in 64 bytes.
 #[no_mangle]
 pub extern "C" fn zlatopysk_read_record(bytes: &[u8], record: &mut [u8; 87], answer: &mut [u64; 3])
-    ensures { λ _. ⌜ left (now (answer .exit)) (now («record» .exit)) ≡ heldLeft (records.readOf (now (bytes .entry))) (now («record» .entry)) ⌝ }
+    ensures { λ _.
+        ⌜ left (now (answer .exit)) (now («record» .exit))
+        ≡ heldLeft (records.readOf (now (bytes .entry))) (now («record» .entry)) ⌝ }
 {
     match sensor_record::read(bytes) {
         ReadRecord::Refused(why) => {
@@ -175,7 +191,9 @@ pub extern "C" fn zlatopysk_read_record(bytes: &[u8], record: &mut [u8; 87], ans
 // The 64 bytes of a sensor record over the front of the output.
 #[no_mangle]
 pub extern "C" fn zlatopysk_write_record(record: &[u8; 87], out: &mut [u8], answer: &mut [u64; 3])
-    ensures { λ _. ⌜ left (now (answer .exit)) (now (out .exit)) ≡ writtenLeft (records.writeOf (valuesIn (now («record» .entry))) (now (out .entry))) ⌝ }
+    ensures { λ _.
+        ⌜ left (now (answer .exit)) (now (out .exit))
+        ≡ writtenLeft (records.writeOf (valuesIn (now («record» .entry))) (now (out .entry))) ⌝ }
 {
     let values = record_layout::values(record);
     match sensor_record::write(values, out) {

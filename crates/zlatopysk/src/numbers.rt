@@ -44,14 +44,18 @@ pub fn of_plan(planned: Planned) -> [u64; 3]
     }
 }
 
-pub fn of_check(checked: Checked) -> [u64; 3]
-    ensures { λ r. ⌜ r ≡ checkNumbers (checks.said (checked .answer)) (checked .packets) ⌝ }
+pub fn of_check(checked: Checked) -> [u64; 4]
+    ensures { λ r. ⌜ r ≡ checkNumbers (checks.said (checked .answer)) (checked .packets) (checked .unknown) ⌝ }
 {
-    let packets = checked.packets;
+    let packets = checked.packets as u64;
+    let unknown = checked.unknown as u64;
     let answer = checked.answer;
     match answer {
-        checker::Answer::Passed => [0, 0, packets as u64],
-        checker::Answer::Refused { refusal, place } => refused(refusal, place, packets),
+        checker::Answer::Passed => [0, 0, packets, unknown],
+        checker::Answer::Refused { refusal, place } => {
+            let number = refusal::number(refusal);
+            [number as u64, place as u64, packets, unknown]
+        }
     }
 }
 

@@ -12,6 +12,8 @@ use std::fmt::{self, Debug, Display, Formatter};
 pub enum Class {
     Answered,
     Refusal(u8),
+    /// A refusal of the checker that leaves some bytes unknown and others known.
+    PartlyKnown(u8),
     /// One byte from the loader.
     Byte(u8),
     /// A message of the loader.
@@ -34,6 +36,7 @@ impl Display for Class {
         match self {
             Class::Answered => write!(f, "answered"),
             Class::Refusal(number) => write!(f, "refusal {number}"),
+            Class::PartlyKnown(number) => write!(f, "refusal {number}, partly known"),
             Class::Byte(byte) => write!(f, "byte 0x{byte:02X}"),
             Class::Message(message) => write!(f, "message 0x{message:02X}"),
             Class::Data => write!(f, "data"),
@@ -108,36 +111,25 @@ pub fn plan(
 }
 
 pub fn check(sides: Sides, given: &CheckInput) -> Result<Class, Difference> {
-    let CheckInput {
-        script,
-        text,
-        password,
-        expected,
-        size,
-        zeros,
-        ones,
-    } = given;
     let input = || given.to_string();
-    let run = |side: &Implementation| {
-        let (mut zeros, mut ones) = (zeros.clone(), ones.clone());
-        let checked = (side.check)(
-            script, text, password, *expected, *size, &mut zeros, &mut ones,
-        );
-        (checked, zeros, ones)
-    };
-    let (left, left_zeros, left_ones) = run(sides.left);
-    let (right, right_zeros, right_ones) = run(sides.right);
+    let (left, left_lent) = given.checked_by(sides.left);
+    let (right, right_lent) = given.checked_by(sides.right);
     same("answer", left, right, input)?;
-    same_bytes("buffer of zeros", &left_zeros, &right_zeros, input)?;
-    same_bytes("buffer of 0xFF", &left_ones, &right_ones, input)?;
+    same_bytes("region", &left_lent.region, &right_lent.region, input)?;
+    same_bytes("known bits", &left_lent.known, &right_lent.known, input)?;
     if !matches!(left.answer, Err(Refused { number: 7..=12, .. })) {
         let lent = [
-            ("buffer of zeros", &zeros[..], &left_zeros[..]),
-            ("buffer of 0xFF", ones, &left_ones),
+            ("region", &given.lent.region[..], &left_lent.region[..]),
+            ("known bits", &given.lent.known, &left_lent.known),
         ];
         kept_if_refused(&left.answer, &lent, input)?;
     }
-    Ok(class(left.answer))
+    Ok(match left.answer {
+        Err(refused) if (1..given.size).contains(&left.unknown) => {
+            Class::PartlyKnown(refused.number)
+        }
+        answer => class(answer),
+    })
 }
 
 /// One call; the world is left as both sides leave it.
@@ -341,14 +333,14 @@ impl Display for CheckInput {
     fn fmt(&self, f: &mut Formatter) -> fmt::Result {
         write!(
             f,
-            "script {}, text {}, password {}, expected {:04X}, size {}, trial buffers {} and {}",
+            "script {}, text {}, password {}, expected {:04X}, size {}, region {}, known bits {}",
             show(&self.script),
             show(&self.text),
             show(&self.password),
             self.expected,
             self.size,
-            self.zeros.len(),
-            self.ones.len()
+            self.lent.region.len(),
+            self.lent.known.len()
         )
     }
 }

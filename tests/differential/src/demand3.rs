@@ -15,17 +15,8 @@ pub fn holds(
     input: &CheckInput,
     random: &mut Random,
 ) -> Result<(), Difference> {
-    let (mut zeros, mut ones) = (input.zeros.clone(), input.ones.clone());
-    let checked = (side.check)(
-        &input.script,
-        &input.text,
-        &input.password,
-        input.expected,
-        input.size,
-        &mut zeros,
-        &mut ones,
-    );
     let outside_its_limits = [1, 2, 18, 3, 4, 5];
+    let (checked, _) = input.checked_by(side);
     match checked.answer {
         Err(Refused { number, .. }) if outside_its_limits.contains(&number) => Ok(()),
         answer => {

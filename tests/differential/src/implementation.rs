@@ -1,6 +1,6 @@
 //! The two sides of a comparison: every public function as a pointer, in the reference's types.
 
-use reference::{Card, CheckedInTwo as Checked, Mode, Refused, Replied, SensorRecord};
+use reference::{Card, Checked, Mode, Refused, Replied, SensorRecord};
 
 pub type Read = fn(&[u8], usize, &mut [u8]) -> Result<(), Refused>;
 pub type Plan = fn(&[u8], &[u8], u32, usize, &mut [u8]) -> Result<usize, Refused>;
@@ -33,7 +33,7 @@ pub const REFERENCE: Implementation = Implementation {
     checksum: reference::checksum,
     read: reference::read,
     plan: reference::plan,
-    check: reference::check_in_two,
+    check: reference::check,
     call: reference::call,
     cut: |card, size, region, password, message, place| {
         reference::cut(card, size, region, password, message, place)
@@ -51,11 +51,12 @@ pub const LIBRARY: Implementation = Implementation {
     plan: |text, password, entry, size, out| {
         across(zlatopysk::plan(text, password, entry, size, out))
     },
-    check: |script, text, password, expected, size, zeros, ones| {
-        let checked = zlatopysk::check(script, text, password, expected, size, zeros, ones);
+    check: |script, text, password, expected, size, region, known| {
+        let checked = zlatopysk::check(script, text, password, expected, size, region, known);
         Checked {
             answer: across(checked.answer),
             packets: checked.packets,
+            unknown: checked.unknown,
         }
     },
     call: library_call,

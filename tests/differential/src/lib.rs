@@ -11,6 +11,7 @@ pub mod compare;
 pub mod conversation;
 pub mod demand3;
 pub mod implementation;
+pub mod in_two;
 pub mod inputs;
 pub mod listed;
 pub mod random;

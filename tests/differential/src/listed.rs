@@ -2,10 +2,11 @@
 
 use crate::accepted;
 use crate::compare::{self, Class, Difference, Sides};
+use crate::in_two;
 use crate::inputs::messages::World;
 use crate::inputs::records::{fields, Field};
 use crate::inputs::scripts::{long_script, short_script, CheckInput, Ending, SHORT_SCRIPTS};
-use crate::inputs::{records, texts};
+use crate::inputs::{records, regions, texts};
 use crate::random::Random;
 use crate::run::Function;
 use reference::record::encode;
@@ -46,7 +47,7 @@ pub fn count(function: Function) -> usize {
         Function::Call => ONE_BYTE + TWO_BYTES + HEADERS,
         Function::Read => LIMIT_TEXTS + PREFIXES.len() * SHORT_TEXTS,
         Function::Plan => LIMIT_TEXTS,
-        Function::Check => SHORT_SCRIPTS + LIMIT_SCRIPTS + LIMIT_TEXTS,
+        Function::Check => CHECKS.iter().map(|kind| kind.count).sum(),
         Function::ReadRecord => 2 * 512 + 64 * 256 + 130,
         Function::WriteRecord => field_count() * 256 + 130,
         Function::TotalPower => 65_536,
@@ -124,14 +125,68 @@ fn limit_text(index: usize) -> Vec<u8> {
     texts::lengthened(end, LONGEST_TEXT + index / 4)
 }
 
-/// Short scripts, with what T-08 claims of them; then those at a limit.
-fn check(sides: Sides, index: usize) -> Result<Class, Difference> {
-    if index >= SHORT_SCRIPTS {
-        return compare::check(sides, &limit_check(index - SHORT_SCRIPTS));
+/// One kind of input of the checker.
+struct CheckKind {
+    count: usize,
+    input: fn(usize) -> CheckInput,
+    /// Whether what T-08 and T-09 claim is tried too.
+    is_claimed: bool,
+}
+
+impl CheckKind {
+    const fn claimed(count: usize, input: fn(usize) -> CheckInput) -> CheckKind {
+        CheckKind {
+            count,
+            input,
+            is_claimed: true,
+        }
     }
-    let input = short_script(index);
-    accepted::holds(sides.left, &input, accepted::PREMISES)?;
-    compare::check(sides, &input)
+
+    const fn compared(count: usize, input: fn(usize) -> CheckInput) -> CheckKind {
+        CheckKind {
+            count,
+            input,
+            is_claimed: false,
+        }
+    }
+}
+
+/// The kinds, those first that find most of the wrong references.
+const CHECKS: [CheckKind; 7] = [
+    CheckKind::claimed(regions::EARLY, regions::early),
+    CheckKind::claimed(regions::BEFORE_THE_RUN, regions::before_the_run),
+    CheckKind::claimed(SHORT_SCRIPTS, short_script),
+    CheckKind::compared(regions::LENT_LENGTHS, regions::lent_length),
+    CheckKind::claimed(regions::AROUND_HOLES, regions::around_a_hole),
+    CheckKind::compared(LIMIT_SCRIPTS + LIMIT_TEXTS, limit_check),
+    CheckKind::claimed(regions::AROUND_WRITES, regions::around_a_write),
+];
+
+/// The inputs of which T-08 and T-09 make their claims.
+pub fn claimed() -> impl Iterator<Item = CheckInput> {
+    let kinds = CHECKS.iter().filter(|kind| kind.is_claimed);
+    kinds.flat_map(|kind| (0..kind.count).map(kind.input))
+}
+
+/// The input of this index, and its kind.
+fn check_input(mut index: usize) -> (CheckInput, &'static CheckKind) {
+    for kind in &CHECKS {
+        match index.checked_sub(kind.count) {
+            None => return ((kind.input)(index), kind),
+            Some(behind) => index = behind,
+        }
+    }
+    unreachable!("an index below the number of the listed cases")
+}
+
+fn check(sides: Sides, index: usize) -> Result<Class, Difference> {
+    let (input, kind) = check_input(index);
+    let class = compare::check(sides, &input)?;
+    if kind.is_claimed {
+        in_two::holds(sides.left, &input)?;
+        accepted::holds(sides.left, &input, accepted::PREMISES)?;
+    }
+    Ok(class)
 }
 
 /// Scripts at the limit of their length, and a short one with each of the longest texts.

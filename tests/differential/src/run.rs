@@ -66,7 +66,7 @@ impl Function {
             Function::Call => 40_000,
             Function::Read => 40_000,
             Function::Plan => 30_000,
-            Function::Check => 24_000,
+            Function::Check => 28_000,
             Function::ReadRecord => 200_000,
             Function::WriteRecord => 200_000,
             Function::TotalPower => 2_000_000,
@@ -108,11 +108,18 @@ impl Function {
             Function::Call => call_answers(),
             Function::Cut => vec![Class::CutBefore, Class::CutInside, Class::CutBehind],
             Function::Restart => vec![Class::UpInApplication, Class::UpLocked],
+            Function::Check => check_answers(),
             _ => vec![Class::Answered],
         };
         let refusals = refusals.iter().map(|&number| Class::Refusal(number));
         refusals.chain(others).collect()
     }
+}
+
+/// A pass, and the refusals that can leave some bytes unknown and others known.
+fn check_answers() -> Vec<Class> {
+    let partly_known = [7, 10, 8, 12].map(Class::PartlyKnown);
+    [&[Class::Answered], &partly_known[..]].concat()
 }
 
 /// The answers of a call that is not refused.

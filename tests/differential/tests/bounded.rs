@@ -4,11 +4,13 @@
 use differential::accepted::{self, Premises};
 use differential::compare::Sides;
 use differential::implementation::{Implementation, LIBRARY, REFERENCE};
+use differential::in_two;
 use differential::inputs::scripts;
+use differential::listed;
 use differential::random::Random;
 use differential::recovery::{self, Steps};
 use differential::run::{bounded_cases, try_case, Function, Tally};
-use differential::wrong;
+use differential::wrong::{self, Wrong, WrongAcceptance, WrongRecovery};
 use reference::script::frames;
 use std::io::Write;
 
@@ -91,16 +93,7 @@ fn scripts_by_the_page_pass() {
     for index in 0..3_000 {
         let random = &mut Random::new(SEED + index);
         let input = scripts::by_the_page(random);
-        let (mut zeros, mut ones) = (input.zeros, input.ones);
-        let checked = (LIBRARY.check)(
-            &input.script,
-            &input.text,
-            &input.password,
-            input.expected,
-            input.size,
-            &mut zeros,
-            &mut ones,
-        );
+        let (checked, _) = input.checked_by(&LIBRARY);
         assert_eq!(checked.answer, Ok(()), "{index}");
         let packets = frames(&input.script).map(|frames| frames.len());
         assert_eq!(Some(checked.packets), packets, "{index}");
@@ -108,7 +101,7 @@ fn scripts_by_the_page_pass() {
 }
 
 /// Whether a case of the bounded run finds a wrong reference.
-fn is_found(wrong: &wrong::Wrong) -> bool {
+fn is_found(wrong: &Wrong) -> bool {
     let sides = Sides {
         left: &LIBRARY,
         right: &wrong.implementation,
@@ -116,21 +109,23 @@ fn is_found(wrong: &wrong::Wrong) -> bool {
     bounded_cases(SEED, wrong.function).any(|case| try_case(sides, wrong.function, case).is_err())
 }
 
+/// Prints how many of the wrong ones are found, which must be all of them.
+fn expect_all_found<'a>(what: &str, wrong: impl Iterator<Item = (&'a str, bool)>) {
+    let wrong: Vec<(&str, bool)> = wrong.collect();
+    let missed = wrong.iter().filter(|(_, is_found)| !is_found);
+    let missed: Vec<&str> = missed.map(|(name, _)| *name).collect();
+    let found = wrong.len() - missed.len();
+    print(&format!("wrong {what}: {found} of {} found", wrong.len()));
+    assert!(missed.is_empty(), "not found: {missed:?}");
+}
+
 #[test]
 fn every_wrong_reference_is_found() {
     let all = wrong::all();
-    let mut missed = Vec::new();
-    for wrong in &all {
-        if !is_found(wrong) {
-            missed.push(wrong.name);
-        }
-    }
-    print(&format!(
-        "wrong references: {} of {} found",
-        all.len() - missed.len(),
-        all.len()
-    ));
-    assert!(missed.is_empty(), "not found: {missed:?}");
+    expect_all_found(
+        "references",
+        all.iter().map(|wrong| (wrong.name, is_found(wrong))),
+    );
 }
 
 /// The first of the page's own small scripts for which a recovery from cuts fails.
@@ -147,26 +142,16 @@ fn fails_at(side: &Implementation, steps: Steps) -> Option<u64> {
 fn every_wrong_recovery_is_found() {
     assert_eq!(fails_at(&LIBRARY, recovery::STEPS), None);
     let all = wrong::recoveries();
-    let mut missed = Vec::new();
-    for wrong in &all {
-        if fails_at(&wrong.side, wrong.steps).is_none() {
-            missed.push(wrong.name);
-        }
-    }
-    print(&format!(
-        "wrong recoveries: {} of {} found",
-        all.len() - missed.len(),
-        all.len()
-    ));
-    assert!(missed.is_empty(), "not found: {missed:?}");
+    let found = |wrong: &WrongRecovery| fails_at(&wrong.side, wrong.steps).is_some();
+    expect_all_found(
+        "recoveries",
+        all.iter().map(|wrong| (wrong.name, found(wrong))),
+    );
 }
 
-/// The first of the short scripts for which T-08's claim fails.
+/// The first listed script for which T-08's claim fails.
 fn parts_at(side: &Implementation, premises: Premises) -> Option<usize> {
-    (0..scripts::SHORT_SCRIPTS).find(|&index| {
-        let input = scripts::short_script(index);
-        accepted::holds(side, &input, premises).is_err()
-    })
+    listed::claimed().position(|input| accepted::holds(side, &input, premises).is_err())
 }
 
 /// T-08's claim needs the loader's own rules, the picture test, and that no start comes before.
@@ -174,18 +159,34 @@ fn parts_at(side: &Implementation, premises: Premises) -> Option<usize> {
 fn every_wrong_acceptance_is_found() {
     assert_eq!(parts_at(&LIBRARY, accepted::PREMISES), None);
     let all = wrong::acceptances();
-    let mut missed = Vec::new();
-    for wrong in &all {
-        if parts_at(&wrong.side, wrong.premises).is_none() {
-            missed.push(wrong.name);
-        }
-    }
-    print(&format!(
-        "wrong acceptances: {} of {} found",
-        all.len() - missed.len(),
-        all.len()
-    ));
-    assert!(missed.is_empty(), "not found: {missed:?}");
+    let found = |wrong: &WrongAcceptance| parts_at(&wrong.side, wrong.premises).is_some();
+    expect_all_found(
+        "acceptances",
+        all.iter().map(|wrong| (wrong.name, found(wrong))),
+    );
+}
+
+/// The first listed script for which T-09's claim fails.
+fn departs_at(side: &Implementation) -> Option<usize> {
+    listed::claimed().position(|input| in_two::holds(side, &input).is_err())
+}
+
+/// T-09's claim holds of both checkers over one region, and needs each rule of the known bits: the
+/// two buffers alone find what the comparison with the reference finds.
+#[test]
+fn every_wrong_known_bit_is_found() {
+    let direct = Implementation {
+        check: reference::check_directly,
+        ..REFERENCE
+    };
+    assert_eq!(departs_at(&LIBRARY), None);
+    assert_eq!(departs_at(&direct), None);
+    let all = wrong::known_bits();
+    let found = |wrong: &Wrong| departs_at(&wrong.implementation).is_some();
+    expect_all_found(
+        "known bits by two buffers alone",
+        all.iter().map(|wrong| (wrong.name, found(wrong))),
+    );
 }
 
 #[test]

@@ -3,7 +3,7 @@
 use mathlib.Core.Path.{sym, _∙_}
 use borrow.Author.Tests.{not-true, not-false}
 use denote.Ref.{now}
-use Rattle.checker.proofs.Steps.{step-early, step-zeros, step-both}
+use Rattle.checker.proofs.Steps.{follow-early, follow-failed, follow-ran}
 use borrow.Author.Needs.{needs}
 use Rattle.checker.proofs.run_packet.Statement.{statement}
 use Rattle.checker.proofs.run_packet.Tie as tie
@@ -18,10 +18,14 @@ same-length-2 : tie.Need-same-length-2
 same-length-2 c = search needs
 
 returns : tie.Need-returns
-returns c = let early = c .before .starts-too-early in
-    let start = c .before .before .before .before .before .before .before .before .before in
+returns c =
+    let early = c .before .starts-too-early in
+    let lent = c .before .before .before .before in
+    let start = lent .before .before .before .before .before in
     let a = start .args in
-    step-early (now (a .password)) (now (a .text)) (now (a .packet)) (a .first) (a .second) (now (a .zeros)) (now (a .ones)) (start .pre) (early .result) (early .ensures) (c .if1 .taken)
+    λ ones t.
+    follow-early (now (a .password)) (now (a .text)) (now (a .packet)) (a .loader) (now (a .region)) (now (a .known)) ones (start .pre)
+    (λ i. lent .slice-known2 .given i .fits) t (early .result) (early .ensures) (c .if1 .taken)
 
 receive-requires : tie.Need-receive-requires
 receive-requires c κs = search needs
@@ -36,16 +40,20 @@ same-length-4 : tie.Need-same-length-4
 same-length-4 c = search needs
 
 returns-2 : tie.Need-returns-2
-returns-2 c = let ran = c .before .before .before .before .before in
+returns-2 c =
+    let ran = c .before .before .before .before .before in
     let asked = ran .before .before in
     let early = asked .before .starts-too-early in
-    let start = asked .before .before .before .before .before .before .before .before .before in
+    let lent = asked .before .before .before .before in
+    let start = lent .before .before .before .before .before in
     let a = start .args in
-    step-zeros (now (a .password)) (now (a .text)) (now (a .packet)) (a .first) (a .second) (now (a .zeros)) (now (a .ones)) (start .pre) (early .result) (early .ensures) (asked .if1 .left)
+    λ ones t.
+    follow-failed (now (a .password)) (now (a .text)) (now (a .packet)) (a .loader) (now (a .region)) (now (a .known)) ones (start .pre)
+    (λ i. lent .slice-known2 .given i .fits) t (early .result) (early .ensures) (asked .if1 .left)
     _ (ran .receive .ensures) (sym (c .before .succeeded .ensures) ∙ not-true _ (c .if2 .taken))
 
-receive-requires-2 : tie.Need-receive-requires-2
-receive-requires-2 c κs = search needs
+learn-requires : tie.Need-learn-requires
+learn-requires c κs = search needs
 
 same-length-5 : tie.Need-same-length-5
 same-length-5 c = search needs
@@ -54,15 +62,20 @@ same-length-6 : tie.Need-same-length-6
 same-length-6 c = search needs
 
 returns-3 : tie.Need-returns-3
-returns-3 c = let ran-too = c .before .before .before in
-    let judged = ran-too .before .before in
+returns-3 c =
+    let learning = c .before .before in
+    let judged = learning .before .before in
     let ran = judged .before .before .before .before .before in
     let asked = ran .before .before in
     let early = asked .before .starts-too-early in
-    let start = asked .before .before .before .before .before .before .before .before .before in
+    let lent = asked .before .before .before .before in
+    let start = lent .before .before .before .before .before in
     let a = start .args in
-    step-both (now (a .password)) (now (a .text)) (now (a .packet)) (a .first) (a .second) (now (a .zeros)) (now (a .ones)) (start .pre) (early .result) (early .ensures) (asked .if1 .left)
-    _ (ran .receive .ensures) _ (ran-too .receive2 .ensures) (sym (judged .before .succeeded .ensures) ∙ not-false _ (judged .if2 .left))
+    λ ones t.
+    follow-ran (now (a .password)) (now (a .text)) (now (a .packet)) (a .loader) (now (a .region)) (now (a .known)) ones (start .pre)
+    (λ i. lent .slice-known2 .given i .fits) t (early .result) (early .ensures) (asked .if1 .left)
+    _ (ran .receive .ensures) (sym (judged .before .succeeded .ensures) ∙ not-false _ (judged .if2 .left))
+    (learning .learn .last .1 .0) (learning .learn .kept .1 .0) (learning .learn .ensures)
 
 pub run-packet-spec : {M : Type 1} → statement M
 run-packet-spec =
@@ -77,7 +90,7 @@ run-packet-spec =
     same-length-3
     same-length-4
     returns-2
-    receive-requires-2
+    learn-requires
     same-length-5
     same-length-6
     returns-3)

@@ -2,8 +2,10 @@
 -- Assumes nothing.
 use mathlib.Core.Path.{_≡_, refl, sym, ap, _∙_}
 use mathlib.Core.Bool.{true, false, not}
+use Prim.Native.Nat.{ℕ}
 use borrow.Author.Tests.{not-true, not-false}
 use denote.Ref.{now}
+use lib.Dec.{eqb}
 use Rattle.ti_txt.specs.Answers.{isPictureOf}
 use Rattle.delivery.specs.Check.{beginsStart}
 use borrow.Author.Needs.{needs}
@@ -14,23 +16,37 @@ begins-start-requires : tie.Need-begins-start-requires
 begins-start-requires c κs = search needs
 
 returns : tie.Need-returns
-returns c = let no : beginsStart (now (c .before .before .before .before .before .before .args .packet)) ≡ false = sym (c .before .begins-start .ensures) ∙ not-true _ (c .if1 .taken) in rw no refl
+returns c =
+    let asked = c .before in
+    let a = asked .before .before .before .before .before .args in
+    let no : beginsStart (now (a .packet)) ≡ false = sym (asked .begins-start .ensures) ∙ not-true _ (c .if1 .taken) in
+    rw no refl
 
 is-picture-requires : tie.Need-is-picture-requires
 is-picture-requires c κs = search needs
 
 returns-2 : tie.Need-returns-2
-returns-2 c = let yes : beginsStart (now (c .before .before .before .before .before .before .before .before .args .packet)) ≡ true = sym (c .before .before .before .begins-start .ensures) ∙ not-false _ (c .before .before .if1 .left) in
-    let differs : isPictureOf (now (c .before .before .before .before .before .before .before .before .args .text)) (now (c .before .before .before .before .before .before .before .before .args .zeros)) ≡ false = sym (c .before .is-picture .ensures) ∙ not-true _ (c .if2 .taken) in
-    rw (yes, differs) refl
+returns-2 c =
+    let begun = c .before .before in
+    let asked = begun .before in
+    let a = asked .before .before .before .before .before .args in
+    let yes : beginsStart (now (a .packet)) ≡ true = sym (asked .begins-start .ensures) ∙ not-false _ (begun .if1 .left) in
+    let other : isPictureOf (now (a .text)) (now (a .region)) ≡ false = sym (c .before .is-picture .ensures) ∙ not-true _ (c .if2 .taken) in
+    rw (yes, other) refl
 
-same-requires : tie.Need-same-requires
-same-requires c κs = search needs
+unknown-requires : tie.Need-unknown-requires
+unknown-requires c κs = search needs
 
 returns-3 : tie.Need-returns-3
-returns-3 c = let yes : beginsStart (now (c .before .before .before .before .before .before .before .before .before .args .packet)) ≡ true = sym (c .before .before .before .before .begins-start .ensures) ∙ not-false _ (c .before .before .before .if1 .left) in
-    let holds : isPictureOf (now (c .before .before .before .before .before .before .before .before .before .args .text)) (now (c .before .before .before .before .before .before .before .before .before .args .zeros)) ≡ true = sym (c .before .before .is-picture .ensures) ∙ not-false _ (c .before .if2 .left) in
-    rw (yes, holds) (ap not (c .same .ensures))
+returns-3 c =
+    let compared = c .before in
+    let begun = compared .before .before in
+    let asked = begun .before in
+    let a = asked .before .before .before .before .before .args in
+    let yes : beginsStart (now (a .packet)) ≡ true = sym (asked .begins-start .ensures) ∙ not-false _ (begun .if1 .left) in
+    let holds : isPictureOf (now (a .text)) (now (a .region)) ≡ true =
+    sym (compared .before .is-picture .ensures) ∙ not-false _ (compared .if2 .left) in
+    rw (yes, holds) (ap (λ (n : ℕ). not (eqb n 0)) (c .unknown .ensures))
 
 pub starts-too-early-spec : {M : Type 1} → statement M
 starts-too-early-spec =
@@ -40,5 +56,5 @@ starts-too-early-spec =
     returns
     is-picture-requires
     returns-2
-    same-requires
+    unknown-requires
     returns-3)

@@ -1,7 +1,7 @@
 -- `zlatopysk::zlatopysk_check` meets its contract, by what the checker ensures.
 -- Assumes nothing.
 use mathlib.Core.Path.{ap, _∙_}
-use Rattle.delivery.specs.Check.{Checked}
+use Rattle.delivery.specs.OneRegion.{One}
 use Rattle.zlatopysk.specs.Numbers.{checkNumbers}
 use Rattle.zlatopysk.specs.Lent.{leftBoth}
 use borrow.Author.Needs.{needs}
@@ -23,7 +23,7 @@ same-length-2 c = search needs
 returns : tie.Need-returns
 returns c =
     let check = c .before .before .before .before .before .check .ensures .0 in
-    λ i. leftBoth ((c .of-check .ensures ∙ ap (λ (k : Checked). checkNumbers (k .answer) (k .packets)) check) i) (check i .zeros) (check i .ones)
+    λ i. leftBoth ((c .of-check .ensures ∙ ap (λ (o : One). checkNumbers (o .answer) (o .packets) (o .unknown)) check) i) (check i .region) (check i .known)
 
 pub zlatopysk-check-spec : {M : Type 1} → statement M
 zlatopysk-check-spec =

@@ -54,22 +54,53 @@ pub fn size(random: &mut Random, good: usize, odds: usize) -> usize {
     }
 }
 
-/// A lent region or trial buffer for this size, of that length if it is one to lend.
+/// A lent region for this size.
 pub fn region(random: &mut Random, size: usize, odds: usize) -> Vec<u8> {
+    memory(random, size, 1, odds)
+}
+
+/// The memory that the checker is lent: the region, and a bit for each of its bytes.
+#[derive(Clone, Debug)]
+pub struct Lent {
+    pub region: Vec<u8>,
+    pub known: Vec<u8>,
+}
+
+impl Lent {
+    /// Memory for this size.
+    pub fn any(random: &mut Random, size: usize, odds: usize) -> Lent {
+        Lent {
+            region: region(random, size, odds),
+            known: memory(random, size, 8, odds),
+        }
+    }
+
+    /// Memory of these lengths, in which no byte is as the checker fills it.
+    pub fn of_lengths(region: usize, known: usize) -> Lent {
+        Lent {
+            region: vec![0x5A; region],
+            known: vec![0xA5; known],
+        }
+    }
+}
+
+/// A byte for each so many of the region, if its size is one to lend.
+fn memory(random: &mut Random, size: usize, each: usize, odds: usize) -> Vec<u8> {
+    let right = size / each;
     let length = if size > GREATEST_REGION + SECTOR {
-        SECTOR
+        SECTOR / each
     } else if random.once_in(odds) {
         let lengths = [
             0,
             1,
-            size.saturating_sub(1),
-            size + 1,
-            size + SECTOR,
-            size / 2,
+            right.saturating_sub(1),
+            right + 1,
+            right + SECTOR / each,
+            right / 2,
         ];
         random.pick(&lengths)
     } else {
-        size
+        right
     };
     random.bytes(length)
 }

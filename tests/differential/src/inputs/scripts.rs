@@ -1,11 +1,14 @@
 //! Scripts: planned, composed by hand, damaged in every structured way, and random.
 
-use crate::inputs::{lent, messages, texts};
+use crate::implementation::Implementation;
+use crate::inputs::lent::{self, Lent};
+use crate::inputs::{messages, regions, texts};
 use crate::random::Random;
 use reference::packet;
+use reference::refusal::SECTOR;
 use reference::script::{frames, HEAD};
 use reference::text::{draw, parse, Segment, TI_TXT};
-use reference::{checksum, planner};
+use reference::{checksum, planner, Checked};
 
 /// Everything the checker is given and lent.
 #[derive(Clone, Debug)]
@@ -15,8 +18,24 @@ pub struct CheckInput {
     pub password: Vec<u8>,
     pub expected: u16,
     pub size: usize,
-    pub zeros: Vec<u8>,
-    pub ones: Vec<u8>,
+    pub lent: Lent,
+}
+
+impl CheckInput {
+    /// What a side's checker answers, and what it leaves in the memory.
+    pub fn checked_by(&self, side: &Implementation) -> (Checked, Lent) {
+        let mut lent = self.lent.clone();
+        let checked = (side.check)(
+            &self.script,
+            &self.text,
+            &self.password,
+            self.expected,
+            self.size,
+            &mut lent.region,
+            &mut lent.known,
+        );
+        (checked, lent)
+    }
 }
 
 /// A script in its parts, so that it can be damaged in a structured way.
@@ -58,6 +77,12 @@ struct Goal {
     password: Vec<u8>,
 }
 
+impl Goal {
+    fn is_zero(&self) -> bool {
+        self.picture.iter().all(|&byte| byte == 0)
+    }
+}
+
 /// Any input of the checker.
 pub fn check_input(random: &mut Random) -> CheckInput {
     let odds = lent::odds(random);
@@ -79,8 +104,7 @@ pub fn check_input(random: &mut Random) -> CheckInput {
             false => checksum(&goal.picture),
         },
         size,
-        zeros: lent::region(random, size, odds),
-        ones: lent::region(random, size, odds),
+        lent: Lent::any(random, size, odds),
     }
 }
 
@@ -122,10 +146,11 @@ fn goal(text: &[u8], size: usize, password: &[u8]) -> Goal {
 }
 
 fn script(random: &mut Random, goal: &Goal) -> Vec<u8> {
-    let mut parts = match random.weighted(&[40, 45, 8, 4]) {
+    let mut parts = match random.weighted(&[36, 40, 8, 12, 4]) {
         0 => planned(random, goal),
         1 => composed(random, goal),
         2 => any_packets(random, goal),
+        3 => partly_known(random, goal),
         _ => {
             let length = random.below(400);
             let mut bytes = random.bytes(length);
@@ -158,8 +183,7 @@ fn planned(random: &mut Random, goal: &Goal) -> Parts {
 /// A script of another cut that mostly leaves the picture too.
 fn composed(random: &mut Random, goal: &Goal) -> Parts {
     let mut packets = vec![packet::password(&goal.password)];
-    let all_zero = goal.picture.iter().all(|&byte| byte == 0);
-    if !all_zero || random.once_in(3) {
+    if !goal.is_zero() || random.once_in(3) {
         packets.push(packet::erase());
     }
     let mut writes: Vec<Vec<u8>> = Vec::new();
@@ -230,6 +254,29 @@ fn any_packets(random: &mut Random, goal: &Goal) -> Parts {
     }
     for _ in 0..random.below(8) {
         packets.push(messages::sound_packet(random, &world));
+    }
+    Parts::of(packets)
+}
+
+/// Zeros over parts of a region that is seldom erased; where the picture is all zeros, mostly over
+/// everything but a hole.
+fn partly_known(random: &mut Random, goal: &Goal) -> Parts {
+    let mut packets = vec![packet::password(&goal.password)];
+    packets.extend(if goal.is_zero() && random.percent(70) {
+        regions::zeros_around_a_hole(random, goal.size)
+    } else {
+        regions::some_zeros(random, goal.size)
+    });
+    for _ in 0..random.pick(&[0, 0, 1, 2]) {
+        let place = random.between(1, packets.len());
+        packets.insert(place, harmless(random, goal));
+    }
+    if random.once_in(5) {
+        let place = random.between(1, packets.len());
+        packets.insert(place, packet::erase());
+    }
+    if random.percent(60) {
+        packets.push(packet::start(random.below(goal.size) as u32));
     }
     Parts::of(packets)
 }
@@ -387,8 +434,7 @@ pub fn by_the_page(random: &mut Random) -> CheckInput {
         password,
         expected: checksum(&goal.picture),
         size,
-        zeros: random.bytes(size),
-        ones: random.bytes(size),
+        lent: Lent::any(random, size, usize::MAX),
     }
 }
 
@@ -402,10 +448,6 @@ pub const SHORT_SCRIPTS: usize = 3 * LISTS;
 /// The short script of this index: the password, and at most three packets of all kinds, writes
 /// that meet known and untouched bytes among them.
 pub fn short_script(index: usize) -> CheckInput {
-    let size = 4_096;
-    let text = b"@10\n01 02\nq".to_vec();
-    let password = vec![0xFF; 256];
-    let goal = goal(&text, size, &password);
     let kinds: [Vec<u8>; KINDS] = [
         packet::erase(),
         packet::write(0x10, &[0, 0]),
@@ -415,25 +457,36 @@ pub fn short_script(index: usize) -> CheckInput {
         packet::range_checksum(0x0F, 4),
         packet::start(0x10),
     ];
-    let mut packets = vec![packet::password(&password)];
     let (mut list, mut length) = (index / 3, 0);
     while list >= KINDS.pow(length) {
         list -= KINDS.pow(length);
         length += 1;
     }
-    packets.extend((0..length).map(|place| kinds[list / KINDS.pow(place) % KINDS].clone()));
+    let packets = (0..length).map(|place| kinds[list / KINDS.pow(place) % KINDS].clone());
+    let input = small(TEXT, &packets.collect::<Vec<_>>());
+    let expected = match index % 3 {
+        0 => input.expected,
+        1 => checksum(&vec![0x00; input.size]),
+        _ => checksum(&vec![0xFF; input.size]),
+    };
+    CheckInput { expected, ..input }
+}
+
+/// A text for the smallest region.
+pub const TEXT: &[u8] = b"@10\n01 02\nq";
+
+/// The password and these packets, for the smallest region.
+pub fn small(text: &[u8], packets: &[Vec<u8>]) -> CheckInput {
+    let size = SECTOR;
+    let password = vec![0xFF; 256];
+    let sent = [&[packet::password(&password)], packets].concat();
     CheckInput {
-        script: Parts::of(packets).bytes(),
-        text,
+        script: Parts::of(sent).bytes(),
+        text: text.to_vec(),
+        expected: checksum(&goal(text, size, &password).picture),
         password,
-        expected: match index % 3 {
-            0 => checksum(&goal.picture),
-            1 => checksum(&vec![0x00; size]),
-            _ => checksum(&vec![0xFF; size]),
-        },
         size,
-        zeros: vec![0x5A; size],
-        ones: vec![0xA5; size],
+        lent: Lent::of_lengths(size, size / 8),
     }
 }
 
@@ -478,8 +531,7 @@ pub fn long_script(random: &mut Random, length: usize, ending: Ending) -> CheckI
         password,
         expected: checksum(&goal.picture),
         size,
-        zeros: random.bytes(size),
-        ones: random.bytes(size),
+        lent: Lent::any(random, size, usize::MAX),
     }
 }
 

@@ -18,6 +18,9 @@ macro_rules! wrong {
     };
 }
 
+#[macro_use]
+mod ran;
+
 mod acceptances;
 mod calls;
 mod checks;
@@ -25,6 +28,7 @@ mod mains;
 mod numbers;
 mod plans;
 mod records;
+mod regions;
 mod texts;
 
 pub use acceptances::{acceptances, WrongAcceptance};
@@ -59,6 +63,9 @@ pub fn all() -> Vec<Wrong> {
         plans::refusals(),
         checks::runs(),
         checks::refusals(),
+        known_bits(),
+        regions::memory(),
+        regions::lengths(),
         mains::writes(),
         mains::erases(),
         mains::works(),
@@ -67,6 +74,20 @@ pub fn all() -> Vec<Wrong> {
         mains::cut_states(),
         mains::restart_modes(),
         mains::restart_states(),
+    ]
+    .into_iter()
+    .flatten()
+    .collect()
+}
+
+/// The wrong references whose runs break what T-09 claims.
+pub fn known_bits() -> Vec<Wrong> {
+    [
+        regions::ranges(),
+        regions::learnings(),
+        regions::moments(),
+        regions::unknowns(),
+        regions::counts(),
     ]
     .into_iter()
     .flatten()

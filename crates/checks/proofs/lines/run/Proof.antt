@@ -8,10 +8,11 @@ use Rattle.checks.proofs.lines.run.Statement.{statement}
 use Rattle.checks.proofs.lines.run.Tie as tie
 
 abbrev Inv-loop : tie.InvT-loop
-Inv-loop input script₀ text₀ zeros₀ ones₀ at₀ script text zeros ones at = (at ≤ length input + 1) × (2097153 ≡ length script) × (1048577 ≡ length text) × (266240 ≡ length zeros) × (266240 ≡ length ones)
+Inv-loop input script₀ text₀ region₀ known₀ at₀ script text region known at =
+    (at ≤ length input + 1) × (2097153 ≡ length script) × (1048577 ≡ length text) × (266240 ≡ length region) × (33280 ≡ length known)
 
 abbrev μ-loop : tie.MeasureT-loop
-μ-loop input script₀ text₀ zeros₀ ones₀ at₀ script text zeros ones at = length input - at
+μ-loop input script₀ text₀ region₀ known₀ at₀ script text region known at = length input - at
 
 script-room-requires : tie.Need-script-room-requires Inv-loop μ-loop
 script-room-requires c κs = search needs
@@ -22,8 +23,8 @@ text-room-requires c κs = search needs
 region-room-requires : tie.Need-region-room-requires Inv-loop μ-loop
 region-room-requires c κs = search needs
 
-region-room-requires-2 : tie.Need-region-room-requires-2 Inv-loop μ-loop
-region-room-requires-2 c κs = search needs
+known-room-requires : tie.Need-known-room-requires Inv-loop μ-loop
+known-room-requires c κs = search needs
 
 loop-holds : tie.Need-loop-holds Inv-loop μ-loop
 loop-holds c = search needs
@@ -73,7 +74,7 @@ run-spec =
     script-room-requires
     text-room-requires
     region-room-requires
-    region-room-requires-2
+    known-room-requires
     loop-holds
     line-at-requires
     slice-aggregate-line

@@ -1,6 +1,7 @@
 -- `zlatopysk::numbers::of_check` meets its contract: a way for each answer.
 -- Assumes nothing.
 use mathlib.Core.Path.{sym, ap, _∙_}
+use mathlib.Core.List.{[], _∷_}
 use Rattle.checker.specs.declared.Answer.{Answer}
 use Rattle.checker.specs.Answers.{said}
 use Rattle.zlatopysk.specs.Numbers.{checkNumbers}
@@ -14,18 +15,23 @@ enum-told c = search needs
 enum-known-answer : tie.Need-enum-known-answer
 enum-known-answer c = search needs
 
-refused-requires : tie.Need-refused-requires
-refused-requires c κs = search needs
+number-requires : tie.Need-number-requires
+number-requires c κs = search needs
+
+cast-t9 : tie.Need-cast-t9
+cast-t9 c = search needs
 
 returns : tie.Need-returns
 returns c =
-    let packets = c .before .before .args .checked .packets in
-    ap (λ (a : Answer). checkNumbers (said a) packets) (sym (c .enum-told .given .1))
+    let k = c .before .before .args .checked in
+    ap (λ (a : Answer). checkNumbers (said a) (k .packets) (k .unknown)) (sym (c .enum-told .given .1))
 
 returns-2 : tie.Need-returns-2
 returns-2 c =
-    let packets = c .before .before .before .before .args .checked .packets in
-    c .refused .ensures ∙ ap (λ (a : Answer). checkNumbers (said a) packets) (sym (c .before .before .answer .given .1))
+    let k = c .before .before .before .before .args .checked in
+    let told = c .before .before .answer .given in
+    (λ i. c .number .ensures i ∷ told .0 .1 .0 ∷ k .packets ∷ k .unknown ∷ [])
+    ∙ ap (λ (a : Answer). checkNumbers (said a) (k .packets) (k .unknown)) (sym (told .1))
 
 pub of-check-spec : {M : Type 1} → statement M
-of-check-spec = tie.close (tie.spec enum-told enum-known-answer refused-requires returns returns-2)
+of-check-spec = tie.close (tie.spec enum-told enum-known-answer number-requires cast-t9 returns returns-2)
