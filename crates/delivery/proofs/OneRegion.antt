@@ -15,6 +15,7 @@ use Rattle.firmware_text.specs.Machine.{imageOf}
 use Rattle.flash.specs.Flash.{writable, allowsOf}
 use Rattle.known_bits.specs.Known.{longestMap, unknownOf, differ, knownOf, Knows}
 use Rattle.known_bits.proofs.Laws.{known-knows, knows-all, knows-known, differ-same, unknown-differ, alike-bytes}
+use Rattle.little_endian.specs.Bytes.{Bytes}
 use Rattle.little_endian.proofs.AllBytes.{bytes-all, bytes-filled}
 use Rattle.region.specs.Size.{goodSize}
 use Rattle.test_laws.proofs.Tests.{both, on-cond}
@@ -162,15 +163,16 @@ module _ (script text password : List ℕ) (expected n : ℕ) (region known : Li
     unknown-in unknown = only-zero (run .zeros) a here (agree-unknown agree a (sym bit ∙ unknown))
 
     known-in : (marked (single run .known) a ≡ true)
-        ↔ ((held : List ℕ) → length held ≡ n → getD (flashBehind script password expected (single run .packets) held) a 0 ≡ getD
+        ↔ ((held : List ℕ) → Bytes held → length held ≡ n → getD
+        (flashBehind script password expected (single run .packets) held) a 0 ≡ getD
         (single run .region) a 0)
     unfolding single
     known-in = (
-      λ is held sized. agree-known (run-agree script picture password expected n held sized) a (sym bit ∙ is),
+      λ is held bytes sized. agree-known (run-agree script picture password expected n held sized) a (sym bit ∙ is),
       λ all.
           let over : getD (run .ones) a 0 ≡ getD (run .zeros) a 0 =
           ap (λ (l : List ℕ). getD l a 0) (counts-right script picture password expected n .over-ones .holds)
-          ∙ all (replicate n 0xFF) (length-replicate n 0xFF) in
+          ∙ all (replicate n 0xFF) (bytes-all (replicate n 0xFF) (bytes-filled n 0xFF (omega arith))) (length-replicate n 0xFF) in
           bit ∙ eq-eqb _ _ (sym over),
     )
 

@@ -1,6 +1,5 @@
 -- Demand 3: what a pass of the checker is worth, as one statement about the list of loader calls. Here it is said of document 01's checker
--- with two
--- trial buffers; `Demand3One` says the same of T-09's, with one region (`OneRegion.antt`).
+-- with two trial buffers; `Demand3One` says the same of T-09's, with one region (`OneRegion.antt`).
 -- Assumes nothing.
 use mathlib.Core.Bool.{true}
 use mathlib.Core.List.{List}

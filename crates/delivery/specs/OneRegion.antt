@@ -12,6 +12,7 @@ use Rattle.crc.specs.Crc.{checksumOf}
 use Rattle.firmware_text.specs.Machine.{imageOf}
 use Rattle.flash.specs.Flash.{allowsOf}
 use Rattle.known_bits.specs.Known.{unknownOf, differ, knownOf, Knows}
+use Rattle.little_endian.specs.Bytes.{Bytes}
 use Rattle.planner.specs.Plan.{planned, planOf}
 use Rattle.text_image.specs.Picture.{pictureOf}
 use Rattle.delivery.specs.Check.{Said, passed, refused, Checked, trial, locked, runOf, judgedOf, checkOf}
@@ -76,7 +77,8 @@ pub record AsTwo (judged : Said) (two : Checked) (region known : List ℕ) (c : 
   pub bits : judged ≡ passed → Knows (two .zeros) (two .ones) (c .known)
   pub before : (number place : ℕ) → judged ≡ refused number place → c ≡ one (refused number place) 0 0 region known
 
--- so it is on every input that both take
+-- so it is on every input that both take. The answer is defined from the two runs; that the code gives it is the contract of
+-- `checker::check`
 abbrev pub SameAsTwo : Type 0
 SameAsTwo =
     (script text password : List ℕ) (expected n : ℕ) (zeros ones region known : List ℕ) → BothTake n zeros ones region known
@@ -85,7 +87,8 @@ SameAsTwo =
 
 -- ---- what the bits say
 
--- the byte at an address stands as 0, and a write there is allowed exactly if it is of 0
+-- the byte at an address stands as 0, and a write of one byte there is allowed exactly if the byte is 0; a longer one is judged byte by
+-- byte
 pub record StandsAsZero (region : List ℕ) (a : ℕ) : Type 0 where
   pub stands : getD region a 0 ≡ 0
   pub takes : (new : ℕ) → (allowsOf (new ∷ []) a region ≡ true) ↔ (new ≡ 0)
@@ -98,19 +101,19 @@ UnknownIsZero =
     → (a : ℕ) → a < n → marked (oneOf script text password expected n region known .known) a ≡ false
     → StandsAsZero (oneOf script text password expected n region known .region) a
 
--- what a card's flash holds that held some bytes, behind the first packets of a script
+-- what a flash holds that held some bytes, behind the first packets of a script, run as the trial runs are
 abbrev pub flashBehind : (script password : List ℕ) (expected packets : ℕ) (held : List ℕ) → List ℕ
 flashBehind script password expected packets held =
     behindAll password (take packets (packetsIn script)) (trial (locked expected) held) .region
 
--- a bit is 1 exactly where every flash, whatever it held, has the region's byte behind the packets that succeeded
+-- a bit is 1 exactly where every flash, whatever bytes it held, has the region's byte behind the packets that succeeded in both runs
 abbrev pub KnownMeansKnown : Type 0
 KnownMeansKnown =
     (script text password : List ℕ) (expected n : ℕ) (region known : List ℕ)
     → judgedOne script text password n (length region) (length known) ≡ passed
     → (a : ℕ) → a < n
     → (marked (oneOf script text password expected n region known .known) a ≡ true)
-    ↔ ((held : List ℕ) → length held ≡ n
+    ↔ ((held : List ℕ) → Bytes held → length held ≡ n
     → getD (flashBehind script password expected (oneOf script text password expected n region known .packets) held) a 0
     ≡ getD (oneOf script text password expected n region known .region) a 0)
 

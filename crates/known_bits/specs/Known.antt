@@ -11,7 +11,7 @@ use Rattle.address_set.specs.Bits.{marked}
 
 -- ---- a map of bits
 
--- the longest map that a region has: that of the greatest
+-- the length of the longest map that a region has: that of the greatest
 abbrev pub longestMap : ℕ
 longestMap = 32768
 
@@ -20,7 +20,7 @@ unfoldable pub countOf : List ℕ → ℕ
 countOf [] = 0
 countOf (b ∷ map) = ones b + countOf map
 
--- and how many are not
+-- and how many of a map of bytes are not
 abbrev pub unset : List ℕ → ℕ
 unset map = length map * 8 - countOf map
 
@@ -36,7 +36,7 @@ between from end a = leb from a && ltb a end
 abbrev pub hasRange : List ℕ → (from n : ℕ) → Bool
 hasRange map from n = leb (length map) longestMap && leb (from + n) (length map * 8)
 
--- the map with n addresses from one on besides, if it has them
+-- the map with n addresses from one on besides, if it has them and is not longer than any region's
 pub record WithRange (from n : ℕ) (old new : List ℕ) : Type 0 where
   pub sized : length new ≡ length old
   pub bits : (a : ℕ) → marked new a ≡ ((between from (from + n) a && hasRange old from n) || marked old a)

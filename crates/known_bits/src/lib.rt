@@ -1,5 +1,5 @@
 // Known bits: a bit for each byte of a region, the low bit of each byte first, set where the byte is
-// known. Those that are not set are counted a word at a time, and ranges of addresses are added. No public
+// known. They are counted a word at a time, and ranges of addresses are added. No public
 // function asks anything of its input: to a map longer than any region's nothing is added, and as many of
 // its bytes are unknown as the greatest region has.
 ghost use mathlib.Core.Path.{_≡_};
@@ -49,7 +49,7 @@ fn count(map: &[u8]) -> usize
     n
 }
 
-// How many bytes of a region are not known by its map.
+// How many bytes of a region are not known by its map; all of the greatest for a map longer than any region's.
 pub fn unknown(map: &[u8]) -> usize
     ensures { λ r. ⌜ r ≡ unknownOf (now (map .entry)) ⌝ }
 {
