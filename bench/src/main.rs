@@ -9,6 +9,7 @@ mod scripts;
 mod texts;
 mod watch;
 
+use reference::START;
 use scripts::{ENTRY, LONGEST};
 use std::process::exit;
 use texts::{Text, SIZE};
@@ -33,20 +34,20 @@ fn said(refused: Option<(u8, usize)>, success: &str) -> String {
     }
 }
 
-type Checksum = fn(&[u8]) -> u16;
+type Checksum = fn(u16, &[u8]) -> u16;
 
 fn time_checksum() {
     let bytes = texts::image(0);
     let ways: [(&str, Checksum); 3] = [
-        ("proved", zlatopysk::checksum),
+        ("proved", |_start, bytes| zlatopysk::checksum(bytes)),
         ("plain, by a table", reference::checksum),
         ("plain, bit by bit", reference::checksum_bit_by_bit),
     ];
     let mut times = [const { Vec::new() }; 3];
     for _ in 0..RUNS {
         for (way, times) in ways.iter().zip(&mut times) {
-            let (sum, took) = timed(|| way.1(&bytes));
-            assert_eq!(sum, reference::checksum(&bytes), "another checksum");
+            let (sum, took) = timed(|| way.1(START, &bytes));
+            assert_eq!(sum, reference::checksum(START, &bytes), "another checksum");
             times.push(took);
         }
     }

@@ -42,7 +42,7 @@ impl Script {
             name,
             text: Rc::new(text),
             bytes,
-            expected: reference::checksum(&picture),
+            expected: reference::checksum(reference::START, &picture),
             answer: (None, packets),
         }
     }

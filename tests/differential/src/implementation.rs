@@ -30,7 +30,7 @@ pub struct Implementation {
 
 /// The plain implementation.
 pub const REFERENCE: Implementation = Implementation {
-    checksum: reference::checksum,
+    checksum: |bytes| reference::checksum(reference::START, bytes),
     read: reference::read,
     plan: reference::plan,
     check: reference::check,

@@ -11,7 +11,7 @@ use crate::random::Random;
 use crate::run::Function;
 use reference::record::encode;
 use reference::refusal::{LONGEST_SCRIPT, LONGEST_TEXT};
-use reference::{checksum, packet, Card, Mode, SensorRecord};
+use reference::{checksum, packet, Card, Mode, SensorRecord, START};
 
 /// The symbols of which all short texts are made.
 const SYMBOLS: &[u8; 8] = b"@0bq \r\nG";
@@ -269,7 +269,7 @@ fn cut(sides: Sides, index: usize) -> Result<Class, Difference> {
 /// The region's checksum expected, and others that are like it.
 fn restart(sides: Sides, index: usize) -> Result<Class, Difference> {
     let mut world = small_world(&mut Random::new(index as u64), index % SMALL_WORLDS);
-    let sum = checksum(&world.region);
+    let sum = checksum(START, &world.region);
     world.card.expected = match index / SMALL_WORLDS {
         0 => sum,
         1 => !sum,

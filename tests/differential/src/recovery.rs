@@ -7,7 +7,7 @@ use crate::implementation::Implementation;
 use crate::inputs::scripts::CheckInput;
 use crate::random::Random;
 use reference::script::frames;
-use reference::{checksum, work, Card, Mode, SensorRecord};
+use reference::{checksum, work, Card, Mode, SensorRecord, START};
 
 /// What is done between a cut and the script sent afresh.
 #[derive(Clone, Copy, Debug)]
@@ -177,7 +177,7 @@ impl Sending<'_> {
         if self.card.mode != Mode::Application {
             return Ok(());
         }
-        match checksum(&self.region) {
+        match checksum(START, &self.region) {
             sum if sum == self.card.expected => Ok(()),
             sum => Err(format!("in application over the checksum {sum:04X}")),
         }

@@ -77,7 +77,7 @@ fn shortest_reply_buffer(mode: Mode) -> usize {
 #[cfg(test)]
 mod tests {
     use super::*;
-    use crate::checksum::checksum;
+    use crate::checksum::{checksum, START};
     use crate::packet;
 
     fn card(mode: Mode, expected: u16) -> Card {
@@ -118,7 +118,7 @@ mod tests {
     #[test]
     fn start_answers_nothing_and_keeps_the_reply_buffer() {
         let mut region = [0x12; 4_096];
-        let mut card = card(Mode::Unlocked, checksum(&region));
+        let mut card = card(Mode::Unlocked, checksum(START, &region));
         let mut reply = [7; 9];
         let start = packet::start(4_095);
         let replied = call(&mut card, 4_096, &mut region, &[0; 256], &start, &mut reply);

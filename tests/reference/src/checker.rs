@@ -91,7 +91,7 @@ pub fn is_start(frame: &[u8]) -> bool {
 #[cfg(test)]
 mod tests {
     use super::*;
-    use crate::checksum::checksum;
+    use crate::checksum::{checksum, START};
     use crate::planner::plan;
     use crate::script::HEAD;
     use crate::trials::{
@@ -101,7 +101,7 @@ mod tests {
 
     /// What the password and these packets leave, for the text of the tests.
     fn left(packets: &[&[u8]]) -> Agreed {
-        left_for(TEXT, checksum(&picture(TEXT)), packets)
+        left_for(TEXT, checksum(START, &picture(TEXT)), packets)
     }
 
     /// The bytes of the known bits that aren't 0, each with its index.
@@ -329,7 +329,7 @@ mod tests {
     #[test]
     fn number_10_with_some_bytes_unknown() {
         let text = text_of_zeros_after("");
-        let sum = checksum(&[0; 4_096]);
+        let sum = checksum(START, &[0; 4_096]);
         let start = packet::start(0);
         let whole = zeros_everywhere();
         for missing in 0..whole.len() {
@@ -351,7 +351,7 @@ mod tests {
     /// The loader would refuse each of these starts, and the picture test comes before it.
     #[test]
     fn number_10_comes_before_8() {
-        let sum = checksum(&picture(TEXT));
+        let sum = checksum(START, &picture(TEXT));
         let (zeros, erase) = (packet::write(0x10, &[0, 0]), packet::erase());
         let mut damaged = packet::start(0x10);
         damaged[9] ^= 1;
@@ -392,7 +392,7 @@ mod tests {
         let text = text_of_zeros_after("");
         let mut packets = zeros_everywhere();
         packets.push(packet::start(0));
-        let left = left_for(&text, checksum(&[0; 4_096]), &slices(&packets));
+        let left = left_for(&text, checksum(START, &[0; 4_096]), &slices(&packets));
         assert_eq!(left.answer(), (0, 0, 18));
         assert!(all_known(&left));
         assert_eq!(left.region, vec![0; 4_096]);
@@ -402,7 +402,7 @@ mod tests {
     #[test]
     fn a_planned_script_of_the_greatest_size_passes() {
         let text = format!("@0\n{}q", "5A\n".repeat(262_144)).into_bytes();
-        let sum = checksum(&[0x5A; 262_144]);
+        let sum = checksum(START, &[0x5A; 262_144]);
         let mut script = vec![0; 300_000];
         let length = plan(&text, &FF, 0, 262_144, &mut script).unwrap();
         let passed = agreed(&script[..length], &text, &FF, sum, 262_144);

@@ -1,7 +1,7 @@
 //! Document 01, "The loader": one message judged in a loader mode.
 
 use crate::card::Mode;
-use crate::checksum::checksum;
+use crate::checksum::{checksum, START};
 use crate::packet::{self, push_packet};
 
 /// A loader in one of its two modes, with what it is lent.
@@ -107,9 +107,11 @@ impl Loader<'_> {
             Command::Erase => Outcome::Erase,
             Command::Write { address, data } => self.judge_write(address, data),
             Command::RangeChecksum { address, length } => {
-                Outcome::Sum(checksum(&self.region[address..address + length]))
+                Outcome::Sum(checksum(START, &self.region[address..address + length]))
             }
-            Command::Start { .. } if checksum(self.region) == self.expected => Outcome::Start,
+            Command::Start { .. } if checksum(START, self.region) == self.expected => {
+                Outcome::Start
+            }
             Command::Start { .. } => Outcome::Refused(0x01),
         }
     }

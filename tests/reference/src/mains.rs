@@ -1,7 +1,7 @@
 //! Document 02, T-07: mains lost while a message is carried out, and the restart after it.
 
 use crate::card::{Card, Mode};
-use crate::checksum::checksum;
+use crate::checksum::{checksum, START};
 use crate::loader::{Loader, Outcome};
 use crate::refusal::{is_region_size, require, Refused, PASSWORD};
 
@@ -35,7 +35,7 @@ pub fn cut(
 /// Power comes back. The card starts its firmware only over the expected checksum.
 pub fn restart(card: &mut Card, size: usize, region: &[u8]) -> Result<(), Refused> {
     require(is_region_size(size) && region.len() == size, 1)?;
-    card.mode = if checksum(region) == card.expected {
+    card.mode = if checksum(START, region) == card.expected {
         Mode::Application
     } else {
         Mode::Locked
@@ -232,7 +232,7 @@ mod tests {
             assert_no_work(mode, &region, &[0x31]);
             assert_no_work(mode, &region, &[]);
         }
-        let sum = checksum(&region);
+        let sum = checksum(START, &region);
         let ready = card(Mode::Unlocked, sum);
         let mut left = region.clone();
         let start = packet::start(0);
@@ -277,7 +277,7 @@ mod tests {
     fn restart_settles_the_mode_and_nothing_else() {
         for size in [4_096, 8_192] {
             let region = vec![0x12; size];
-            let sum = checksum(&region);
+            let sum = checksum(START, &region);
             for before in [Mode::Application, Mode::Locked, Mode::Unlocked] {
                 for (expected, mode) in [(sum, Mode::Application), (!sum, Mode::Locked)] {
                     let mut restarted = card(before, expected);
@@ -293,7 +293,7 @@ mod tests {
         for (size, length) in [(0, 0), (4_095, 4_095), (8_192, 4_096), (4_096, 8_192)] {
             for mode in [Mode::Application, Mode::Unlocked] {
                 let region = vec![0; length];
-                let mut refused = card(mode, !checksum(&region));
+                let mut refused = card(mode, !checksum(START, &region));
                 let before = refused;
                 let answer = restart(&mut refused, size, &region);
                 assert_eq!(answer, Err(Refused::plain(1)));
@@ -308,7 +308,7 @@ mod tests {
             let size = region.len();
             let replied = call(card, size, region, &KEY, message, &mut [0; 9]).unwrap();
             assert!(replied.success);
-            assert!(card.mode != Mode::Application || checksum(region) == card.expected);
+            assert!(card.mode != Mode::Application || checksum(START, region) == card.expected);
         }
     }
 
@@ -320,7 +320,7 @@ mod tests {
         cut(&card, size, region, &KEY, messages[before], place).unwrap();
         restart(&mut card, size, region).unwrap();
         if card.mode == Mode::Application {
-            assert_eq!(checksum(region), card.expected);
+            assert_eq!(checksum(START, region), card.expected);
             call(&mut card, size, region, &KEY, &[0x32], &mut [0; 64]).unwrap();
         }
         assert_eq!(card, fresh);
@@ -334,7 +334,7 @@ mod tests {
         let firmware = b"@1ffe\n01 02\n@10\n03 ff 04\nq";
         let mut picture = vec![0; 8_192];
         text::read(firmware, 8_192, &mut picture).unwrap();
-        let sum = checksum(&picture);
+        let sum = checksum(START, &picture);
         let mut script = vec![0; 1_000];
         let length = plan(firmware, &KEY, 0x10, 8_192, &mut script).unwrap();
         let script = &script[..length];

@@ -3,7 +3,7 @@
 
 use crate::card::Mode;
 use crate::checker::{is_start, require_lent, Checked};
-use crate::checksum::checksum;
+use crate::checksum::{checksum, START};
 use crate::loader::Command;
 use crate::packet;
 use crate::refusal::{require, Refused, LONGEST_SCRIPT, LONGEST_TEXT, PASSWORD};
@@ -127,7 +127,7 @@ impl Run<'_> {
             }
             Command::Write { address, data } => return self.write(address, data),
             Command::RangeChecksum { .. } => {}
-            Command::Start { .. } if checksum(self.region) == self.expected => {
+            Command::Start { .. } if checksum(START, self.region) == self.expected => {
                 self.mode = Mode::Application;
             }
             Command::Start { .. } => return false,

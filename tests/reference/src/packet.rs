@@ -1,6 +1,6 @@
 //! Document 01, "Checksum and packet": packets built, framed and judged.
 
-use crate::checksum::checksum;
+use crate::checksum::{self, checksum};
 
 pub const HEADER: u8 = 0x80;
 pub const LONGEST_CORE: usize = 261;
@@ -31,7 +31,7 @@ pub fn push_packet(out: &mut Vec<u8>, parts: &[&[u8]]) {
     for part in parts {
         out.extend_from_slice(part);
     }
-    let sum = checksum(&out[core..]);
+    let sum = checksum(checksum::START, &out[core..]);
     out.extend(sum.to_le_bytes());
 }
 
@@ -87,7 +87,7 @@ pub fn core(message: &[u8]) -> Result<&[u8], u8> {
         return Err(0x55);
     }
     let (core, sum) = message[3..].split_at(length);
-    if sum != checksum(core).to_le_bytes() {
+    if sum != checksum(checksum::START, core).to_le_bytes() {
         return Err(0x52);
     }
     Ok(core)

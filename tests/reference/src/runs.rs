@@ -2,7 +2,7 @@
 //! which run a script on a card of their own and print what comes of it.
 
 use crate::card::{call, Card, Mode};
-use crate::checksum::checksum;
+use crate::checksum::{checksum, START};
 use crate::mains::{cut, restart, work};
 use crate::packet;
 use crate::record::SensorRecord;
@@ -111,7 +111,7 @@ impl Bench {
         cut(&card, SIZE, &mut region, &PASSWORD, packet, place)
             .expect("the place lies within the work of the packet");
         restart(&mut card, SIZE, &region).expect("the region has its size");
-        format!("{} {:04x}", name(card.mode), checksum(&region))
+        format!("{} {:04x}", name(card.mode), checksum(START, &region))
     }
 }
 

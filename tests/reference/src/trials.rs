@@ -5,7 +5,7 @@ mod many;
 
 use crate::card::{call, Card, Mode};
 use crate::checker::{check, is_start, Checked};
-use crate::checksum::checksum;
+use crate::checksum::{checksum, START};
 use crate::one_region::check_directly;
 use crate::packet;
 use crate::record::SensorRecord;
@@ -139,12 +139,12 @@ pub fn slices(packets: &[Vec<u8>]) -> Vec<&[u8]> {
 
 /// The number, place and count for these packets after the head.
 pub fn checked(packets: &[&[u8]]) -> (u8, usize, usize) {
-    answered(packets, TEXT, checksum(&picture(TEXT)))
+    answered(packets, TEXT, checksum(START, &picture(TEXT)))
 }
 
 /// The number and the count for the password and these packets.
 pub fn unlocked(packets: &[&[u8]]) -> (u8, usize) {
-    unlocked_for(TEXT, checksum(&picture(TEXT)), packets)
+    unlocked_for(TEXT, checksum(START, &picture(TEXT)), packets)
 }
 
 /// The same for another text and expected checksum.

@@ -145,7 +145,7 @@ impl Trial<'_> {
 #[cfg(test)]
 mod tests {
     use super::*;
-    use crate::checksum::checksum;
+    use crate::checksum::{checksum, START};
     use crate::planner::plan;
     use crate::trials::{
         accepted, answered, checked, picture, slices, text_of_zeros_after, unlocked, unlocked_for,
@@ -163,7 +163,7 @@ mod tests {
     fn planned_scripts_pass() {
         let (mut zeros, mut ones) = (vec![3; 4_096], vec![4; 4_096]);
         let picture = picture(TEXT);
-        let sum = checksum(&picture);
+        let sum = checksum(START, &picture);
         let script = planned();
         let passed = check_in_two(&script, TEXT, &FF, sum, 4_096, &mut zeros, &mut ones);
         assert_eq!(passed.answer, Ok(()));
@@ -201,7 +201,7 @@ mod tests {
     #[test]
     fn zeros_need_no_erase() {
         let text = text_of_zeros_after("");
-        let sum = checksum(&[0; 4_096]);
+        let sum = checksum(START, &[0; 4_096]);
         let mut packets = zeros_everywhere();
         packets.push(packet::start(0));
         assert_eq!(unlocked_for(&text, sum, &slices(&packets)), (0, 18));
@@ -260,7 +260,7 @@ mod tests {
     /// A range checksum succeeds in both runs, though their data bytes differ.
     #[test]
     fn range_checksums_that_differ() {
-        assert_ne!(checksum(&[0; 4]), checksum(&[0xFF; 4]));
+        assert_ne!(checksum(START, &[0; 4]), checksum(START, &[0xFF; 4]));
         let summed = |at, length| unlocked(&[&packet::range_checksum(at, length)]);
         assert_eq!(summed(0x0E, 4), (12, 2));
         assert_eq!(summed(0, 4_096), (12, 2));
@@ -278,7 +278,10 @@ mod tests {
         let password = &packet::password(&FF)[..];
         let zeros = &packet::write(0x10, &[0, 0])[..];
         let start = &packet::start(0x10)[..];
-        let (of_zeros, of_ones) = (checksum(&[0; 4_096]), checksum(&[0xFF; 4_096]));
+        let (of_zeros, of_ones) = (
+            checksum(START, &[0; 4_096]),
+            checksum(START, &[0xFF; 4_096]),
+        );
         assert_eq!(accepted(&[password, start], of_zeros), (true, false));
         assert_eq!(accepted(&[password, start], of_ones), (false, true));
         // Before any write, the picture is in neither buffer, in the first, or in the second.
@@ -295,8 +298,8 @@ mod tests {
     #[test]
     fn zeros_with_the_checksum_of_the_image() {
         let text = text_of_zeros_after("01\n10\n21\n");
-        let sum = checksum(&[0; 4_096]);
-        assert_eq!(checksum(&picture(&text)), sum);
+        let sum = checksum(START, &[0; 4_096]);
+        assert_eq!(checksum(START, &picture(&text)), sum);
         let start = packet::start(0);
         assert_eq!(unlocked_for(&text, sum, &[&start]), (10, 1));
         let mut packets = zeros_everywhere();
@@ -310,7 +313,7 @@ mod tests {
     /// Where both buffers are the picture, both runs judge the start alike.
     #[test]
     fn starts_over_the_picture() {
-        let sum = checksum(&picture(TEXT));
+        let sum = checksum(START, &picture(TEXT));
         let erase = packet::erase();
         let write = packet::write(0x10, &[1, 2]);
         let started = |sum, start: &[u8]| unlocked_for(TEXT, sum, &[&erase, &write, start]);
@@ -322,7 +325,7 @@ mod tests {
         assert_eq!(started(!sum, &packet::start(0x10)), (8, 3));
         assert_eq!(started(sum, &packet::packet(&[0x27])), (8, 3));
         assert_eq!(started(sum, &damaged), (8, 3));
-        let blank = checksum(&[0xFF; 4_096]);
+        let blank = checksum(START, &[0xFF; 4_096]);
         let start = packet::start(0);
         assert_eq!(unlocked_for(b"q", blank, &[&erase, &start]), (0, 3));
     }

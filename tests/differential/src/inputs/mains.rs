@@ -2,7 +2,7 @@
 
 use crate::inputs::messages::{self, World};
 use crate::random::Random;
-use reference::{checksum, packet, work, Mode};
+use reference::{checksum, packet, work, Mode, START};
 
 /// The card before a cut: mostly unlocked, since no message has work in another mode.
 pub fn unlock(random: &mut Random, world: &mut World) {
@@ -44,7 +44,7 @@ pub fn place(random: &mut Random, world: &World, message: &[u8]) -> usize {
 
 /// The checksum that the card expects before a restart: the region's, nearly, or any.
 pub fn expect(random: &mut Random, world: &mut World) {
-    let sum = checksum(&world.region);
+    let sum = checksum(START, &world.region);
     world.card.expected = match random.weighted(&[50, 15, 10, 25]) {
         0 => sum,
         1 => sum ^ (1 << random.below(16)),

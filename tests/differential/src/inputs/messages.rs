@@ -3,7 +3,7 @@
 use crate::inputs::{lent, records, texts};
 use crate::random::Random;
 use reference::packet;
-use reference::{checksum, Card, Mode};
+use reference::{checksum, Card, Mode, START};
 
 /// A card with its lent memory, before a call.
 #[derive(Clone, Debug)]
@@ -41,7 +41,7 @@ pub fn world(random: &mut Random) -> World {
 /// What may happen to the card between two calls of a run.
 pub fn change(random: &mut Random, world: &mut World) {
     if random.once_in(4) {
-        world.card.expected = checksum(&world.region);
+        world.card.expected = checksum(START, &world.region);
     }
     if random.once_in(8) {
         world.card.record = records::any(random);

@@ -8,7 +8,7 @@ use reference::packet;
 use reference::refusal::SECTOR;
 use reference::script::{frames, HEAD};
 use reference::text::{draw, parse, Segment, TI_TXT};
-use reference::{checksum, planner, Checked};
+use reference::{checksum, planner, Checked, START};
 
 /// Everything the checker is given and lent.
 #[derive(Clone, Debug)]
@@ -101,7 +101,7 @@ pub fn check_input(random: &mut Random) -> CheckInput {
         password,
         expected: match random.once_in(30) {
             true => random.number() as u16,
-            false => checksum(&goal.picture),
+            false => checksum(START, &goal.picture),
         },
         size,
         lent: Lent::any(random, size, odds),
@@ -366,7 +366,7 @@ fn flip_and_repair(random: &mut Random, packet: &mut [u8]) {
     }
     let end = packet.len() - 2;
     packet[random.between(3, end - 1)] ^= 1 << random.below(8);
-    let sum = checksum(&packet[3..end]);
+    let sum = checksum(START, &packet[3..end]);
     packet[end..].copy_from_slice(&sum.to_le_bytes());
 }
 
@@ -432,7 +432,7 @@ pub fn by_the_page(random: &mut Random) -> CheckInput {
         script: parts.bytes(),
         text,
         password,
-        expected: checksum(&goal.picture),
+        expected: checksum(START, &goal.picture),
         size,
         lent: Lent::any(random, size, usize::MAX),
     }
@@ -466,8 +466,8 @@ pub fn short_script(index: usize) -> CheckInput {
     let input = small(TEXT, &packets.collect::<Vec<_>>());
     let expected = match index % 3 {
         0 => input.expected,
-        1 => checksum(&vec![0x00; input.size]),
-        _ => checksum(&vec![0xFF; input.size]),
+        1 => checksum(START, &vec![0x00; input.size]),
+        _ => checksum(START, &vec![0xFF; input.size]),
     };
     CheckInput { expected, ..input }
 }
@@ -483,7 +483,7 @@ pub fn small(text: &[u8], packets: &[Vec<u8>]) -> CheckInput {
     CheckInput {
         script: Parts::of(sent).bytes(),
         text: text.to_vec(),
-        expected: checksum(&goal(text, size, &password).picture),
+        expected: checksum(START, &goal(text, size, &password).picture),
         password,
         size,
         lent: Lent::of_lengths(size, size / 8),
@@ -529,7 +529,7 @@ pub fn long_script(random: &mut Random, length: usize, ending: Ending) -> CheckI
         script,
         text,
         password,
-        expected: checksum(&goal.picture),
+        expected: checksum(START, &goal.picture),
         size,
         lent: Lent::any(random, size, usize::MAX),
     }

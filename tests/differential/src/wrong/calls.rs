@@ -215,7 +215,8 @@ pub fn loaders() -> Vec<Wrong> {
             }
         }),
         wrong_call!("entry address not judged", |called| {
-            let matches = reference::checksum(called.region) == called.before.expected;
+            let matches =
+                reference::checksum(reference::START, called.region) == called.before.expected;
             let start = called.core(packet::START).is_some();
             if called.number() == Some(1) && start && matches {
                 called.card.mode = Mode::Application;

@@ -5,7 +5,7 @@ use super::{address, Wrong};
 use crate::implementation::{Implementation, REFERENCE};
 use crate::recovery::{Steps, STEPS};
 use crate::run::Function;
-use reference::{checksum, packet, work, Card, Mode, Refused};
+use reference::{checksum, packet, work, Card, Mode, Refused, START};
 
 /// A cut that the reference made, to be altered.
 struct Made<'a> {
@@ -243,7 +243,7 @@ pub fn restart_modes() -> Vec<Wrong> {
             }
         }),
         wrong_restart!("restart judges the low byte alone", |card, _, region| {
-            if checksum(region) as u8 == card.expected as u8 {
+            if checksum(START, region) as u8 == card.expected as u8 {
                 card.mode = Mode::Application;
             }
         }),
@@ -257,7 +257,7 @@ pub fn restart_states() -> Vec<Wrong> {
             card.expected = 0;
         }),
         wrong_restart!("restart expects what is there", |card, _, region| {
-            card.expected = checksum(region);
+            card.expected = checksum(START, region);
         }),
         wrong_restart!("restart clears the record", |card, _, _| {
             card.record = Default::default();

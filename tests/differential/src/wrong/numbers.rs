@@ -20,7 +20,7 @@ pub fn checksums() -> Vec<Wrong> {
             from(0xFFFF, &mirrored).reverse_bits()
         }),
         wrong!("checksum bytes swapped", Checksum, checksum: |bytes| {
-            reference::checksum(bytes).swap_bytes()
+            reference::checksum(reference::START, bytes).swap_bytes()
         }),
     ]
 }

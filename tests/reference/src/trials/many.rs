@@ -1,12 +1,12 @@
 //! Document 02, T-09: scripts in great number, each run as the other tests run theirs.
 
 use super::{accepted, answered, picture, slices, unlocked_for, FF, TEXT};
-use crate::checksum::checksum;
+use crate::checksum::{checksum, START};
 use crate::packet;
 
 /// The checksums of the picture, of zeros, and of 0xFF.
 fn checksums() -> [u16; 3] {
-    [picture(TEXT), vec![0; 4_096], vec![0xFF; 4_096]].map(|region| checksum(&region))
+    [picture(TEXT), vec![0; 4_096], vec![0xFF; 4_096]].map(|region| checksum(START, &region))
 }
 
 #[test]
