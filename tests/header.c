@@ -57,11 +57,28 @@ static void try_record(void) {
     show("read_record of 63 bytes", a);
 }
 
+/* The checksum of the whole region. */
+static uint16_t region_checksum(void) { return zlatopysk_checksum(ZLATOPYSK_CHECKSUM_START, region, SIZE); }
+
+/* The nine digits at once, from another start, in two parts with one empty, and joined from the checksums of two. */
+static void try_checksum(void) {
+    const uint8_t *digits = (const uint8_t *)"123456789";
+    uint16_t first = zlatopysk_checksum(ZLATOPYSK_CHECKSUM_START, digits, 4);
+    uint16_t second = zlatopysk_checksum(ZLATOPYSK_CHECKSUM_START, digits + 4, 5);
+    printf("checksum: %04x\n", zlatopysk_checksum(ZLATOPYSK_CHECKSUM_START, digits, 9));
+    printf("checksum from 0: %04x\n", zlatopysk_checksum(0, digits, 9));
+    printf("checksum from 1234 over nothing: %04x\n", zlatopysk_checksum(0x1234, digits, 0));
+    printf("checksum continued: %04x\n", zlatopysk_checksum(first, digits + 4, 5));
+    printf("joined: %04x\n", zlatopysk_joined(first, second, 5));
+    printf("joined with nothing behind: %04x, before: %04x\n", zlatopysk_joined(first, ZLATOPYSK_CHECKSUM_START, 0),
+           zlatopysk_joined(ZLATOPYSK_CHECKSUM_START, second, 5));
+}
+
 /* A check of the script's first bytes, and the trial region's bytes at an address and their known bits then. */
 static void check(const char *name, size_t n, size_t known_n) {
     struct zlatopysk_checked c;
-    zlatopysk_check(script, n, text, sizeof text - 1, password, sizeof password, zlatopysk_checksum(region, SIZE), SIZE,
-                    trial, SIZE, known, known_n, &c);
+    zlatopysk_check(script, n, text, sizeof text - 1, password, sizeof password, region_checksum(), SIZE, trial, SIZE,
+                    known, known_n, &c);
     show_check(name, c);
     printf("at 0x10:");
     show_bytes(trial + 16, 4);
@@ -108,15 +125,15 @@ static void try_mains(void) {
     cut("password of 255 bytes", 255, write, 12, 3, 0x0f);
     zlatopysk_cut(ZLATOPYSK_LOCKED, 0, version, record, SIZE + 1, region, SIZE, password, 255, write, 12, 3, &a);
     show("cut with a bad size", a);
-    restart("restart over the expected checksum", zlatopysk_checksum(region, SIZE), SIZE);
-    restart("restart over another", (uint16_t)~zlatopysk_checksum(region, SIZE), SIZE);
-    restart("restart with a bad size", zlatopysk_checksum(region, SIZE), SIZE + 1);
+    restart("restart over the expected checksum", region_checksum(), SIZE);
+    restart("restart over another", (uint16_t)~region_checksum(), SIZE);
+    restart("restart with a bad size", region_checksum(), SIZE + 1);
 }
 
 int main(void) {
     struct zlatopysk_answer a;
     memset(password, 0xFF, sizeof password);
-    printf("checksum: %04x\n", zlatopysk_checksum((const uint8_t *)"123456789", 9));
+    try_checksum();
     printf("total_power: %u\n", zlatopysk_total_power(9584, 10000));
     zlatopysk_read(text, sizeof text - 1, SIZE, region, SIZE, &a);
     show("read", a);

@@ -11,6 +11,7 @@ mod watch;
 
 use reference::START;
 use scripts::{ENTRY, LONGEST};
+use std::hint::black_box;
 use std::process::exit;
 use texts::{Text, SIZE};
 use watch::{show_head, timed, Beside, RUNS};
@@ -34,30 +35,53 @@ fn said(refused: Option<(u8, usize)>, success: &str) -> String {
     }
 }
 
-type Checksum = fn(u16, &[u8]) -> u16;
+/// A way to a checksum, with its name.
+type Way<'a> = (&'a str, &'a dyn Fn() -> u16);
 
-fn time_checksum() {
-    let bytes = texts::image(0);
-    let ways: [(&str, Checksum); 3] = [
-        ("proved", |_start, bytes| zlatopysk::checksum(bytes)),
-        ("plain, by a table", reference::checksum),
-        ("plain, bit by bit", reference::checksum_bit_by_bit),
-    ];
-    let mut times = [const { Vec::new() }; 3];
+/// Ways to one checksum over so many bytes, in turn.
+fn time_ways(what: &str, bytes: usize, ways: &[Way]) {
+    let mut times = vec![Vec::new(); ways.len()];
+    let sum = ways[0].1();
     for _ in 0..RUNS {
         for (way, times) in ways.iter().zip(&mut times) {
-            let (sum, took) = timed(|| way.1(START, &bytes));
-            assert_eq!(sum, reference::checksum(START, &bytes), "another checksum");
+            let (other, took) = timed(way.1);
+            assert_eq!(sum, other, "another checksum");
             times.push(took);
         }
     }
     println!("\n{:<31}{}", "", watch::UNITS);
-    println!("{:<22} {:>8}{}", "checksum", "bytes", watch::SPREADS);
+    println!("{what:<22} {:>8}{}", "bytes", watch::SPREADS);
     for (way, times) in ways.iter().zip(&times) {
-        print!("{:<22} {:>8}", way.0, bytes.len());
-        watch::show_times(times, bytes.len());
+        print!("{:<22} {bytes:>8}", way.0);
+        watch::show_times(times, bytes);
         println!();
     }
+}
+
+fn time_checksum() {
+    let bytes = texts::image(0);
+    let (proved, plain, by_bits) = (
+        || zlatopysk::checksum(START, &bytes),
+        || reference::checksum(START, &bytes),
+        || reference::checksum_bit_by_bit(START, &bytes),
+    );
+    let ways: [Way; 3] = [
+        ("proved", &proved),
+        ("plain, by a table", &plain),
+        ("plain, bit by bit", &by_bits),
+    ];
+    time_ways("checksum", bytes.len(), &ways);
+}
+
+/// Two checksums joined, over as many bytes behind as a range checksum can cover.
+fn time_joined() {
+    let [first, second, count] = black_box([0x1234, 0xABCD, u16::MAX]);
+    let (proved, plain) = (
+        || zlatopysk::joined(first, second, count),
+        || reference::joined(black_box(first), second, count),
+    );
+    let ways: [Way; 2] = [("proved", &proved), ("plain, by a table", &plain)];
+    time_ways("joined", count.into(), &ways);
 }
 
 fn time_reader(text: &Text) {
@@ -109,6 +133,7 @@ fn time_usual() {
     println!("Before each run lent buffers are filled with {FILL:#04X}, outside the time.");
     println!("Answers and every lent byte are compared each time.");
     time_checksum();
+    time_joined();
     let (plain, scattered, longest) = (texts::plain(), texts::scattered(), texts::longest());
     let (ends, malformed) = (texts::with_carriage_returns(), texts::malformed());
     show_head("reader");

@@ -56,7 +56,7 @@ int main(int count, char **words) {
         printf("\n");
         return 1;
     }
-    uint16_t expected = zlatopysk_checksum(region, SIZE);
+    uint16_t expected = zlatopysk_checksum(ZLATOPYSK_CHECKSUM_START, region, SIZE);
 
     zlatopysk_check(script, script_n, text, text_n, password, SECRET, expected, SIZE, region, SIZE, known, sizeof known,
                     &checked);

@@ -1,6 +1,6 @@
-/* The public functions of documents 01 and 02, in target/staticlib/libzlatopysk.a, which `rt staticlib zlatopysk`
-   builds for Linux on x86-64. Each is proved: it answers and leaves what crates/zlatopysk says, for every input, reads
-   and writes nothing but what it is lent, and returns.
+/* The public functions of documents 01 and 02, and one to join checksums, in target/staticlib/libzlatopysk.a, which
+   `rt staticlib zlatopysk` builds for Linux on x86-64. Each is proved: it answers and leaves what crates/zlatopysk
+   says, for every input, reads and writes nothing but what it is lent, and returns.
 
    Bytes are lent as a pointer and then their number. A pointer is never null, not even with the number 0. Memory that
    a function writes to (a pointer that is not const) overlaps nothing else that is lent to the same call. Bytes need no
@@ -115,8 +115,18 @@ enum {
     ZLATOPYSK_RECORD = 87
 };
 
-/* The checksum: CRC16-CCITT from 0xFFFF. */
-uint16_t zlatopysk_checksum(const uint8_t *bytes, size_t bytes_n);
+/* The register that every checksum of the papers starts from. */
+enum { ZLATOPYSK_CHECKSUM_START = 0xFFFF };
+
+/* The register of CRC16-CCITT from a start over bytes. With the start ZLATOPYSK_CHECKSUM_START it is their checksum;
+   with the register over earlier bytes it is the register over the earlier bytes and these behind them. */
+uint16_t zlatopysk_checksum(uint16_t start, const uint8_t *bytes, size_t bytes_n);
+
+/* The checksum of joined bytes, from the checksums of the two parts, both from ZLATOPYSK_CHECKSUM_START, and the number
+   of the second part's bytes, at most 65,535: C cuts a greater one to its low 16 bits, unasked. So a card's range
+   checksums of ranges that adjoin are put together, if nobody writes its region meanwhile: beginning with
+   ZLATOPYSK_CHECKSUM_START, the checksum of no bytes, each reply is joined behind those before it. */
+uint16_t zlatopysk_joined(uint16_t first, uint16_t second, uint16_t count);
 
 /* Fills a region of `size` bytes with the picture of a firmware text. The count is 0. */
 void zlatopysk_read(const uint8_t *text, size_t text_n, size_t size, uint8_t *region, size_t region_n,

@@ -14,7 +14,9 @@ mod library {
     use crate::record::LENGTH;
 
     extern "C" {
-        pub fn zlatopysk_checksum(bytes: *const u8, n: usize) -> u16;
+        pub fn zlatopysk_checksum(start: u16, bytes: *const u8, n: usize) -> u16;
+
+        pub fn zlatopysk_joined(first: u16, second: u16, count: u16) -> u16;
 
         pub fn zlatopysk_read(
             text: *const u8,
@@ -184,10 +186,22 @@ fn answered([refusal, place, count]: [u64; 3]) -> Result<usize, Refused> {
     }
 }
 
-/// The CRC-16 of document 01.
-pub fn checksum(bytes: &[u8]) -> u16 {
+/// The register that every checksum of the papers starts from.
+pub const CHECKSUM_START: u16 = 0xFFFF;
+
+/// The register of CRC16-CCITT from a start over bytes. With the start `CHECKSUM_START` it is their checksum; with the
+/// register over earlier bytes it is the register over the earlier bytes and these behind them.
+pub fn checksum(start: u16, bytes: &[u8]) -> u16 {
     // SAFETY: the pointer and the length are those of a slice, which the library reads.
-    unsafe { library::zlatopysk_checksum(bytes.as_ptr(), bytes.len()) }
+    unsafe { library::zlatopysk_checksum(start, bytes.as_ptr(), bytes.len()) }
+}
+
+/// The checksum of joined bytes, from the checksums of the two parts, both from `CHECKSUM_START`, and the number of the
+/// second part's bytes. So a card's range checksums of ranges that adjoin are put together, if nobody writes its region
+/// meanwhile: beginning with `CHECKSUM_START`, the checksum of no bytes, each reply is joined behind those before it.
+pub fn joined(first: u16, second: u16, count: u16) -> u16 {
+    // SAFETY: numbers alone are passed.
+    unsafe { library::zlatopysk_joined(first, second, count) }
 }
 
 /// Fills the region, which has to be `size` long, with the picture of the text.

@@ -8,6 +8,7 @@ pub enum Command {
     Cuts,
     Show,
     Image,
+    Sums,
     Picture,
     Record,
     Help,
@@ -47,6 +48,7 @@ check
 cuts
 show
 image
+sums
 picture
 record
 --version
@@ -61,10 +63,11 @@ record
         2 => Command::Cuts,
         3 => Command::Show,
         4 => Command::Image,
-        5 => Command::Picture,
-        6 => Command::Record,
-        7 => Command::Version,
-        8 | 9 => Command::Help,
+        5 => Command::Sums,
+        6 => Command::Picture,
+        7 => Command::Record,
+        8 => Command::Version,
+        9 | 10 => Command::Help,
         _ => Command::Wrong,
     }
 }
@@ -110,8 +113,8 @@ pub fn takes(command: Command, option: Option) -> bool {
             _ => false,
         },
         Option::Size => match command {
-            Command::Plan | Command::Check | Command::Cuts | Command::Image | Command::Picture =>
-                true,
+            Command::Plan | Command::Check | Command::Cuts => true,
+            Command::Image | Command::Sums | Command::Picture => true,
             _ => false,
         },
         Option::Expect => match command {
@@ -133,7 +136,7 @@ pub fn takes(command: Command, option: Option) -> bool {
 pub fn wanted(command: Command) -> usize {
     match command {
         Command::Plan | Command::Check | Command::Cuts | Command::Picture => 2,
-        Command::Show | Command::Image | Command::Record => 1,
+        Command::Show | Command::Image | Command::Sums | Command::Record => 1,
         _ => 0,
     }
 }

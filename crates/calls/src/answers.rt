@@ -28,7 +28,7 @@ fn mode_number(mode: Mode) -> u8 {
 
 fn region_checksum(region: &[u8]) {
     show::text(b", region");
-    show::hex(crc::checksum(region) as usize, 4);
+    show::hex(crc::checksum(crc::START, region) as usize, 4);
 }
 
 // Whether two cards have the same mode and expect the same checksum.
@@ -75,7 +75,7 @@ fn call_with(
     reply: &mut [u8],
 ) -> Card {
     let before = setup.card;
-    let sum = crc::checksum(region);
+    let sum = crc::checksum(crc::START, region);
     let called = card::call(before, setup.size, region, password, message, reply);
     let after = called.card;
     let state = after.loader;
@@ -84,7 +84,8 @@ fn call_with(
     match answer {
         Answer::Refused(why) => {
             let same = same_state(before, after);
-            let kept = (crc::checksum(region) == sum) & byte_parts::every(reply, BEFORE);
+            let kept = (crc::checksum(crc::START, region) == sum)
+                & byte_parts::every(reply, BEFORE);
             refused(why, same & kept);
         }
         Answer::Replied { count, success } => replied(count, success, mode, region, reply),

@@ -1,5 +1,5 @@
-// The tool of field staff, over the proved functions: scripts planned, checked and listed, images shown and written,
-// sensor records printed. A program has no exit status here, so the first line of standard output says how
+// The tool of field staff, over the proved functions: scripts planned, checked and listed, images shown, summed and
+// written, sensor records printed. A program has no exit status here, so the first line of standard output says how
 // it went: `refused` and a number for a refusal, nothing at all where the usage or a file was wrong, which
 // standard error then says, and anything else for a success. The launcher beside the README turns
 // that line into an exit status. The large rooms stand here once, and are lent.
@@ -29,7 +29,9 @@ fn main() {
             )
         }
         Command::Show => tool_show::run(options, &mut script),
-        Command::Image => tool_image::run(options, &mut text, &mut region),
+        Command::Image | Command::Sums => {
+            tool_image::run(command, options, &mut text, &mut region)
+        }
         Command::Picture => tool_output::picture::run(options, &mut text, &mut region),
         Command::Record => tool_record::run(options),
         _ => usage::answer(command),

@@ -15,7 +15,7 @@ fn expected(setup: Setup, text: &[u8], region: &mut [u8]) -> u16 {
         return setup.other;
     }
     ti_txt::read(text, setup.size, region);
-    crc::checksum(region)
+    crc::checksum(crc::START, region)
 }
 
 fn verdict(answer: Answer) {
@@ -30,7 +30,7 @@ fn verdict(answer: Answer) {
 
 // Lent memory: its checksum, and whether it is as it was lent.
 fn described(lent: &[u8]) {
-    show::hex(crc::checksum(lent) as usize, 4);
+    show::hex(crc::checksum(crc::START, lent) as usize, 4);
     show::kept(byte_parts::every(lent, BEFORE));
 }
 

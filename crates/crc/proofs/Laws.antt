@@ -1,7 +1,8 @@
--- Laws of the register at every width and polynomial: one bit more, one byte more, and that it keeps its width.
+-- Laws of the register at every width and polynomial: one bit more, one part and then another, one byte more, and that it
+-- keeps its width.
 -- Assumes nothing.
 use mathlib.Core.Path.{_≡_, refl, sym, ap, _∙_}
-use mathlib.Core.List.{List, [], _∷_, _++_, append-nil}
+use mathlib.Core.List.{List, [], _∷_, _++_, append-nil, append-assoc}
 use Prim.Native.Nat.{ℕ, zero, suc, _+_, _-_, _*_, _/_, _%_, _^_, _<_}
 use native.Mathlib.Nat.{mod-lt}
 use native.Mathlib.Numerals.{add-one}
@@ -11,6 +12,14 @@ use lib.ListN.{length, getD, drop}
 use lib.Pow.{pow-pos}
 use lib.Seq.{drop-cons}
 use Rattle.crc.specs.Crc.{shifted, bitIn, bitsIn, bitsOf, bitString, register, checksumOf}
+use Rattle.crc.specs.Laws.{Continues}
+
+-- joined bytes have the bits of the one part and then those of the other
+string-joined : (x y : List ℕ) → bitString (x ++ y) ≡ bitString x ++ bitString y
+unfolding bitString
+string-joined [] y = refl
+string-joined (b ∷ x) y =
+    ap (λ (l : List ℕ). bitsOf 8 b ++ l) (string-joined x y) ∙ sym (append-assoc (bitsOf 8 b) (bitString x) (bitString y))
 
 module _ (w p : ℕ) where
   -- of the n - i bits left the highest goes first
@@ -33,14 +42,19 @@ module _ (w p : ℕ) where
   unfolding register bitString
   register-byte r b = ap (bitsIn w p r) (append-nil (bitsOf 8 b))
 
+  -- running over one string of bytes and then another gives what the joined bytes give
+  register-joined : (r : ℕ) (x y : List ℕ) → register w p (register w p r x) y ≡ register w p r (x ++ y)
+  unfolding register
+  register-joined r x y = sym (ap (bitsIn w p r) (string-joined x y) ∙ bits-joined r (bitString x) (bitString y))
+
   -- one byte more
   pub register-next : (r : ℕ) (s : List ℕ) (i : ℕ) → i < length s
       → register w p r (drop i s) ≡ register w p (register w p r (getD s i 0 ∷ [])) (drop (i + 1) s)
-  unfolding register bitString
   register-next r s i h =
-      rw (add-one, drop-cons s i 0)
-      (bits-joined r (bitsOf 8 (getD s i 0)) (bitString (drop (suc i) s))
-      ∙ ap (λ (x : ℕ). bitsIn w p x (bitString (drop (suc i) s))) (sym (register-byte r (getD s i 0))))
+      ap (register w p r) (rw (add-one, drop-cons s i 0)) ∙ sym (register-joined r (getD s i 0 ∷ []) (drop (i + 1) s))
+
+pub continues : Continues
+continues = register-joined
 
 -- a number taken once or not at all
 once-lt : (bit n bound : ℕ) → bit < 2 → n < bound → bit * n < bound

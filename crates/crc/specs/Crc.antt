@@ -1,8 +1,10 @@
--- Cyclic redundancy checks of any width and polynomial, and the checksum (document 01, "Checksum and packet").
+-- Cyclic redundancy checks of any width and polynomial, and the checksum (document 01, "Checksum and packet"; document 02,
+-- T-04). A check runs a register over bits; what the register holds behind them is the checksum.
 -- Assumes nothing.
 use mathlib.Core.List.{List, [], _∷_, _++_}
 use Prim.Native.Nat.{ℕ, zero, suc, _-_, _*_, _/_, _%_, _^_}
 use lib.Bits.{bitXor}
+use lib.ListN.{replicate}
 
 -- the n low bits of a number, high bit first
 unfoldable pub bitsOf : ℕ → ℕ → List ℕ
@@ -33,6 +35,20 @@ module _ (w p : ℕ) where
   unfoldable pub register : ℕ → List ℕ → ℕ
   register r bytes = bitsIn r (bitString bytes)
 
--- document 01's checksum: CRC16-CCITT, x^16 + x^12 + x^5 + 1, from 0xFFFF
+  -- the register over two strings of bytes joined, from the registers over each, both from `start`, and the number of
+  -- the second's bytes: the second ran from `start` and not from `first`, and what that changes is the exclusive or of the
+  -- two, run over as many zero bytes
+  unfoldable pub joined : (start first second count : ℕ) → ℕ
+  joined start first second count = bitXor (register (bitXor first start) (replicate count 0)) second
+
+-- document 01's check, CRC16-CCITT, x^16 + x^12 + x^5 + 1: the register from a start over bytes
+abbrev pub registerOf : (start : ℕ) (bytes : List ℕ) → ℕ
+registerOf = register 16 0x1021
+
+-- document 01's checksum: with the start 0xFFFF
 abbrev pub checksumOf : List ℕ → ℕ
-checksumOf = register 16 0x1021 0xFFFF
+checksumOf = registerOf 0xFFFF
+
+-- the checksum of joined bytes, from the checksums of the two parts and the number of the second's bytes
+abbrev pub joinedOf : (first second count : ℕ) → ℕ
+joinedOf = joined 16 0x1021 0xFFFF

@@ -83,7 +83,7 @@ pub fn range_checksum(address: usize, n: usize, region: &[u8]) -> RangeSum
         return RangeSum::Outside;
     }
     let end = address + n;
-    RangeSum::Sum(crc::checksum(&region[address..end]))
+    RangeSum::Sum(crc::checksum(crc::START, &region[address..end]))
 }
 
 // Whether the firmware may start at an entry address.
@@ -93,6 +93,6 @@ pub fn starts(entry: usize, expected: u16, region: &[u8]) -> bool
     if region.len() <= entry {
         return false;
     }
-    let sum = crc::checksum(region);
+    let sum = crc::checksum(crc::START, region);
     sum == expected
 }

@@ -8,7 +8,8 @@ ghost use lib.Dec.{eqb};
 ghost use lib.ListN.{length};
 ghost use Rattle.crc.specs.Crc.{checksumOf};
 ghost use Rattle.little_endian.specs.Bytes.{storedAt};
-ghost use Rattle.packet.specs.Packet.{coreLength, coreOf, carried, acknowledgementOf, inRow, commandOf, addressOf, rangeLengthOf, packetOf, written, writeOf};
+ghost use Rattle.packet.specs.Packet.{coreLength, coreOf, carried, acknowledgementOf, inRow, commandOf};
+ghost use Rattle.packet.specs.Packet.{addressOf, rangeLengthOf, packetOf, written, writeOf};
 
 // The greatest core length.
 const LONGEST_CORE: usize = 261;
@@ -51,7 +52,7 @@ fn sum_right(message: &[u8]) -> bool
     ensures { λ r. ⌜ r ≡ eqb (carried (now (message .entry))) (checksumOf (coreOf (now (message .entry)))) ⌝ }
 {
     let end = 3 + core_length(message);
-    let sum = crc::checksum(&message[3..end]);
+    let sum = crc::checksum(crc::START, &message[3..end]);
     little_endian::two_at(message, end) == sum
 }
 
@@ -153,7 +154,7 @@ fn wrap(core: &[u8], out: &mut [u8])
     little_endian::store(&[0x80], 0, out);
     little_endian::store_two(stated(n), 1, out);
     little_endian::store(core, 3, out);
-    little_endian::store_two(crc::checksum(core), 3 + n, out);
+    little_endian::store_two(crc::checksum(crc::START, core), 3 + n, out);
 }
 
 // A packet around a core, over the front of a buffer. The answer is false, and the buffer as it

@@ -51,7 +51,13 @@ fn send(
 ) {
     region::fill(region, OLD);
     ti_txt::read(text, picture.len(), picture);
-    let sent = packets::send(script, count, crc::checksum(picture), password, region);
+    let sent = packets::send(
+        script,
+        count,
+        crc::checksum(crc::START, picture),
+        password,
+        region,
+    );
     let mode = sent.mode;
     show::text(b"; sent:");
     show::decimal(sent.succeeded);
@@ -86,7 +92,7 @@ fn send_over(script: &[u8], count: usize, password: &[u8], text: &[u8], size: us
 fn described(script: &[u8], count: usize, behind: &[u8]) {
     show::decimal(count);
     show::text(b" packets, checksum");
-    show::hex(crc::checksum(script) as usize, 4);
+    show::hex(crc::checksum(crc::START, script) as usize, 4);
     show::text(b", rest");
     show::kept(byte_parts::every(behind, BEFORE));
 }

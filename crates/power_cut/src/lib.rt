@@ -20,7 +20,10 @@ const BLOCK: usize = 4096;
 
 // The work of a write: the number of its data bytes, if the region allows them.
 fn write_work(region: &[u8], core: &[u8]) -> usize
-    ensures { λ r. ⌜ r ≡ cond (allowsOf (drop 5 (now (core .entry))) (addressOf (now (core .entry))) (now (region .entry))) (length (drop 5 (now (core .entry)))) 0 ⌝ }
+    ensures { λ r.
+        ⌜ r
+        ≡ cond (allowsOf (drop 5 (now (core .entry))) (addressOf (now (core .entry))) (now (region .entry)))
+        (length (drop 5 (now (core .entry)))) 0 ⌝ }
 {
     let data = loader::behind(core, 5);
     let allowed = flash::allows(data, packet::address(core), region);
@@ -29,7 +32,10 @@ fn write_work(region: &[u8], core: &[u8]) -> usize
 
 // The work of a command that the lock does not hold back.
 fn command_work(command: Command, region: &[u8], core: &[u8]) -> usize
-    ensures { λ r. ⌜ ((loader : Loader) (password : List ℕ) → r ≡ workBy command (now (core .entry)) (now (region .entry)) (doneOf command loader (now (region .entry)) password (now (core .entry)))) ⌝ }
+    ensures { λ r.
+        ⌜ ((loader : Loader) (password : List ℕ)
+        → r ≡ workBy command (now (core .entry)) (now (region .entry))
+        (doneOf command loader (now (region .entry)) password (now (core .entry)))) ⌝ }
 {
     match command {
         Command::Password => 0,
@@ -43,7 +49,10 @@ fn command_work(command: Command, region: &[u8], core: &[u8]) -> usize
 
 // The work of the core of a packet without fault.
 fn core_work(loader: Loader, region: &[u8], core: &[u8]) -> usize
-    ensures { λ r. ⌜ ((password : List ℕ) → r ≡ workBy (commandOf (now (core .entry))) (now (core .entry)) (now (region .entry)) (obeyedOf loader (now (region .entry)) password (now (core .entry)))) ⌝ }
+    ensures { λ r.
+        ⌜ ((password : List ℕ)
+        → r ≡ workBy (commandOf (now (core .entry))) (now (core .entry)) (now (region .entry))
+        (obeyedOf loader (now (region .entry)) password (now (core .entry)))) ⌝ }
 {
     let command = packet::command_of(core);
     let mode = loader.mode;
@@ -121,7 +130,7 @@ pub fn restarted(loader: Loader, region: &[u8]) -> Loader
     ensures { λ r. ⌜ r ≡ restartedOf loader (now (region .entry)) ⌝ }
 {
     let expected = loader.expected;
-    if crc::checksum(region) == expected {
+    if crc::checksum(crc::START, region) == expected {
         return Loader {
             mode: Mode::Application,
             expected,

@@ -25,7 +25,7 @@ fn read(text: &[u8], size: usize, region: &mut [u8]) {
     match ti_txt::read(text, size, region) {
         Verdict::Sound => {
             show::text(b" filled");
-            show::hex(crc::checksum(region) as usize, 4);
+            show::hex(crc::checksum(crc::START, region) as usize, 4);
         }
         Verdict::Refused { refusal, place } => refused(refusal, place, region),
     }

@@ -1,122 +1,63 @@
-// `image`: the image of a firmware text: its segments, how many bytes they use, its checksum, and a map of
-// the region.
+// What a firmware text puts into a region, for two commands. `image` shows its segments, how many bytes they use, its checksum,
+// and a map of the region; `sums`, a module of its own, the checksums of the segments and the packets that ask a card for them.
+mod segments;
+mod sums;
+
+use arguments::Command;
 use arguments::Options;
 use byte_parts::front;
 use byte_parts::front_mut;
 use files::Reading;
 use report::Line;
-use text_cursor::Cursor;
-use text_cursor::Token;
 use text_image::Verdict;
 use tool_words::lines;
 use tool_words::place;
 ghost use Prim.Native.Nat.{_-_, _≤_};
 ghost use lib.ListN.{length};
 
-// A segment so far: its number from 1, its address, its bytes and the address of the last one; and the bytes
-// of all segments so far. The number is 0 before the first one.
-struct Segment {
-    number: usize,
-    address: u64,
-    length: usize,
-    last: u64,
-    total: usize,
-}
-
 // The characters of a map.
 const CELLS: usize = 64;
 
-// More than any text has of anything.
-const MANY: usize = 4294967296;
-
-// One more, of what a text has.
-fn more(n: usize) -> usize {
-    if MANY <= n {
-        return n;
-    }
-    n + 1
-}
-
-// Prints a segment, if there is one.
-fn print_segment(segment: Segment) {
-    if segment.number == 0 {
-        return;
-    }
-    let line = Line::new()
-        .text(b"segment ")
-        .decimal(segment.number)
-        .text(b" at ");
-    let long = line.hex(segment.address as usize)
-        .text(b", ")
-        .count(segment.length, b"byte");
-    if segment.length == 0 {
+// Prints a segment with its number, its address and the number of its bytes.
+fn print_segment(number: usize, address: usize, count: usize) {
+    let line = Line::new().text(b"segment ").decimal(number).text(b" at ");
+    let long = line.hex(address).text(b", ").count(count, b"byte");
+    if count == 0 {
         long.print();
         return;
     }
-    long.text(b", to ").hex(segment.last as usize).print();
+    long.text(b", to ")
+        .hex(segments::together(address, count - 1))
+        .print();
 }
 
-// The segment that a line of the text opens behind another.
-fn opened(before: Segment, address: u64) -> Segment {
-    Segment {
-        number: more(before.number),
-        address,
-        length: 0,
-        last: address,
-        total: before.total,
-    }
+// What the segments of a text have: how many they are, and how many bytes.
+struct Totals {
+    segments: usize,
+    bytes: usize,
 }
 
-// A segment with one byte more, at an address.
-fn longer(segment: Segment, address: u64) -> Segment {
-    Segment {
-        number: segment.number,
-        address: segment.address,
-        length: more(segment.length),
-        last: address,
-        total: more(segment.total),
-    }
-}
-
-// Prints the segments of a text, and marks the addresses that they use. Each token takes at least one byte of the
-// text. The answer is the last segment, with the total of bytes.
-fn print_segments(text: &[u8], map: &mut [u8]) -> Segment {
-    let mut segment = Segment {
-        number: 0,
-        address: 0,
-        length: 0,
-        last: 0,
-        total: 0,
-    };
-    let mut cursor = Cursor::new();
-    let mut left = text.len();
-    while 0 < left {
-        left -= 1;
-        match cursor.next(text) {
-            Token::Segment {
-                address,
-                cursor: next,
-            } => {
-                print_segment(segment);
-                segment = opened(segment, address);
-                cursor = next;
-            }
-            Token::Byte {
-                place: _,
-                address,
-                value: _,
-                cursor: next,
-            } => {
-                address_set::mark(map, address as usize);
-                segment = longer(segment, address);
-                cursor = next;
-            }
-            Token::Refused(_) => left = 0,
-            Token::End => left = 0,
+// Prints the segments of a text, and marks the addresses that they use. Each takes at least one byte of the text, so there
+// are no more than that.
+fn print_segments(text: &[u8], map: &mut [u8]) -> Totals {
+    let mut open = segments::first(text);
+    let mut bytes = 0;
+    for i in 0..text.len() {
+        if !open.found {
+            return Totals { segments: i, bytes };
         }
+        let address = open.address as usize;
+        let end = segments::end_of(text, open);
+        let count = end.count;
+        print_segment(i + 1, address, count);
+        known_bits::mark_range(map, address, count);
+        bytes = segments::together(bytes, count);
+        open = end.next;
     }
-    print_segment(segment);
-    segment
+    Totals {
+        segments: text.len(),
+        bytes,
+    }
 }
 
 // The character of a part of the region, by the bits of its addresses.
@@ -168,29 +109,32 @@ fn print(text: &[u8], size: usize, sum: u16) {
     let mut bits = [0u8; 32768];
     let map: &mut [u8] = &mut bits;
     lines::bytes(b"image in a region of ", size);
-    let last = print_segments(text, map);
+    let totals = print_segments(text, map);
     Line::new()
         .text(b"bytes used ")
-        .decimal(last.total)
+        .decimal(totals.bytes)
         .text(b" in ")
-        .count(last.number, b"segment")
+        .count(totals.segments, b"segment")
         .print();
     lines::checksum(b"checksum ", sum);
     print_map(front(map, size / 8));
 }
 
-// Shows the image of a text in a region, or says why the text is refused.
-fn show(text: &[u8], size: usize, region: &mut [u8]) {
+// Prints what a command wants of a text in a region, or says why the text is refused.
+fn show(command: Command, text: &[u8], size: usize, region: &mut [u8]) {
     match ti_txt::read(text, size, region) {
         Verdict::Refused { refusal, place: at } => place::refused(text, refusal, at),
-        Verdict::Sound => print(text, size, crc::checksum(region)),
+        Verdict::Sound => match command {
+            Command::Sums => sums::print(text, size, region),
+            _ => print(text, size, crc::checksum(crc::START, region)),
+        },
     }
 }
 
-pub fn run(options: Options, room: &mut [u8], region: &mut [u8]) {
+pub fn run(command: Command, options: Options, room: &mut [u8], region: &mut [u8]) {
     let Reading::Held(n) = files::read(options.first, room) else {
         return;
     };
     let size = options.size;
-    show(front(room, n), size, front_mut(region, size));
+    show(command, front(room, n), size, front_mut(region, size));
 }

@@ -29,7 +29,7 @@ fn rule(options: Options, second: Name, usual: Replacing) -> Rule {
 // is that of the region as it was.
 pub fn image_checksum(text: &[u8], region: &mut [u8]) -> u16 {
     ti_txt::read(text, region.len(), region);
-    crc::checksum(region)
+    crc::checksum(crc::START, region)
 }
 
 // The checksum that a card expects: the one asked for, or that of the picture of a text.

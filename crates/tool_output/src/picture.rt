@@ -16,7 +16,7 @@ fn save(options: Options, region: &[u8]) {
         return;
     }
     lines::bytes(b"written ", region.len());
-    lines::checksum(b"image checksum ", crc::checksum(region));
+    lines::checksum(b"image checksum ", crc::checksum(crc::START, region));
 }
 
 // Fills a region with the picture of a text and saves it, or says why the text is refused.

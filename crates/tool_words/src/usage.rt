@@ -12,6 +12,7 @@ fn print(to: i32) {
        cardtool cuts SCRIPT.bsx FIRMWARE.txt [--region FILE] [--password FILE] [--size BYTES] [--expect HEX]
        cardtool show SCRIPT.bsx
        cardtool image FIRMWARE.txt [--size BYTES]
+       cardtool sums FIRMWARE.txt [--size BYTES]
        cardtool picture FIRMWARE.txt REGION.bin [--size BYTES] [--force]
        cardtool record FILE
        cardtool --help
@@ -22,6 +23,7 @@ check    says whether a script puts that image into every card, whatever its fla
 cuts     checks it, and says for each packet how a card comes up if the power fails there
 show     lists the packets of a script
 image    shows the image of a firmware text
+sums     prints the checksums of its segments, the packets that ask a card for them, and the replies
 picture  writes what the flash region then holds, byte for byte
 record   prints a sensor record of 64 bytes
 
@@ -43,7 +45,7 @@ Exit status: 0 pass or success, 1 refused, 2 wrong usage, or a file that cannot 
 pub fn answer(command: Command) {
     match command {
         Command::Version => {
-            io::write_all(STDOUT_FILENO, b"cardtool 0.3.0\n");
+            io::write_all(STDOUT_FILENO, b"cardtool 0.4.0\n");
         }
         Command::Help => print(STDOUT_FILENO),
         Command::Wrong => print(STDERR_FILENO),

@@ -126,7 +126,7 @@ pub fn append_cut(
 {
     let up = power_cut::restarted(state, region);
     let mode = up.mode;
-    let sum = crc::checksum(region);
+    let sum = crc::checksum(crc::START, region);
     let first = append_decimal(at, n, out);
     let second = append_decimal(place, first, out);
     let third = append_name(mode, second, out);

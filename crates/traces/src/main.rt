@@ -34,7 +34,7 @@ fn lines(text: &[u8]) {
 fn length_only(text: &[u8]) {
     show::decimal(text.len());
     show::text(b" bytes");
-    show::hex(crc::checksum(text) as usize, 4);
+    show::hex(crc::checksum(crc::START, text) as usize, 4);
 }
 
 // A text, whole or by its length.

@@ -7,6 +7,8 @@ use vector_lines::show;
 fn answer(kind: u8, bytes: &[u8]) {
     match kind {
         b'c' => packets::checksum(bytes),
+        b's' => packets::continued(bytes),
+        b'j' => packets::joined(bytes),
         b'm' => packets::message(bytes),
         b'w' => packets::written(bytes),
         b't' => records::temperatures(bytes),

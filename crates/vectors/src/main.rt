@@ -4,7 +4,9 @@
 // heading. After them come the checks that go through every core length and every bit of a packet.
 //
 // The kinds are letters. `m`: a message, judged as a packet (the loader's other message, the single byte
-// 31, is not told apart here). `c` and `w`: a core, for its checksum and for the packet around it. `t` and
+// 31, is not told apart here). `c` and `w`: a core, for its checksum and for the packet around it. `s`: a
+// register to start from, low byte first, and bytes, for the register behind them. `j`: two checksums and the
+// number of the second's bytes, each low byte first, for the checksum of the joined bytes. `t` and
 // `g`: temperatures in degrees, and the greater of two. `p`: raw volts and raw amps of the 12 V input, low
 // byte first, for total power in watts. `r`: a sensor record, for its values or its refusal. `v`: the
 // length of an output and 27 values (board status, security, status of both devices; the others are

@@ -1,10 +1,26 @@
 // Checksums, messages judged and packets written.
+use byte_parts::behind;
+use little_endian::two_at;
 use packet::Command;
 use vector_lines::show;
 
 // The checksum of a core.
 pub fn checksum(core: &[u8]) {
-    show::hex(crc::checksum(core) as usize, 4);
+    show::hex(crc::checksum(crc::START, core) as usize, 4);
+}
+
+// The register from a start, which the first two bytes are, low byte first, over the others.
+pub fn continued(bytes: &[u8]) {
+    show::hex(
+        crc::checksum(two_at(bytes, 0), behind(bytes, 2)) as usize,
+        4,
+    );
+}
+
+// The checksum of joined bytes, from those of the two parts and the number of the second's bytes.
+pub fn joined(bytes: &[u8]) {
+    let sum = crc::joined(two_at(bytes, 0), two_at(bytes, 2), two_at(bytes, 4));
+    show::hex(sum as usize, 4);
 }
 
 fn address(core: &[u8]) {

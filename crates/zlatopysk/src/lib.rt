@@ -1,7 +1,7 @@
-// The public functions of documents 01 and 02 for programs in C and Rust; bindings/c/zlatopysk.h declares them. Each takes
-// what its namesake in the crates below takes, and writes its answer as numbers into memory that the caller lends.
-// None asks anything of its input, and each contract fixes the answer and every lent byte. A slice is a pointer and
-// a length, an array a pointer alone.
+// The public functions of documents 01 and 02, and `crc::joined`, for programs in C and Rust; bindings/c/zlatopysk.h
+// declares them. Each takes what its namesake in the crates below takes, and writes its answer as numbers into memory that the
+// caller lends, or answers a number alone. None asks anything of its input, and each contract fixes the answer and every lent
+// byte. A slice is a pointer and a length, an array a pointer alone.
 mod numbers;
 
 use application::Version;
@@ -10,7 +10,7 @@ use loader::Loader;
 use sensor_record::ReadRecord;
 use sensor_record::WroteRecord;
 ghost use mathlib.Core.Path.{_≡_};
-ghost use Rattle.crc.specs.Crc.{checksumOf};
+ghost use Rattle.crc.specs.Crc.{registerOf, joinedOf};
 ghost use Rattle.ti_txt.specs.Answers.{readOf};
 ghost use Rattle.planner.specs.Plan.{planOf};
 ghost use Rattle.delivery.specs.OneRegion.{oneOf};
@@ -22,12 +22,20 @@ ghost use Rattle.record_layout.specs.Reading.{valuesIn};
 ghost use Rattle.zlatopysk.specs.Lent.{left, leftBoth, readLeft, planLeft, checkLeft, heldLeft, writtenLeft};
 ghost use Rattle.zlatopysk.specs.Lent.{cardOf, callLeft, cutLeft, restartLeft};
 
-// The checksum of bytes.
+// The register from a start over bytes: with the start 0xFFFF their checksum.
 #[no_mangle]
-pub extern "C" fn zlatopysk_checksum(bytes: &[u8]) -> u16
-    ensures { λ r. ⌜ r ≡ checksumOf (now (bytes .entry)) ⌝ }
+pub extern "C" fn zlatopysk_checksum(start: u16, bytes: &[u8]) -> u16
+    ensures { λ r. ⌜ r ≡ registerOf start (now (bytes .entry)) ⌝ }
 {
-    crc::checksum(bytes)
+    crc::checksum(start, bytes)
+}
+
+// The checksum of joined bytes, from those of the two parts, which both started at 0xFFFF, and the number of the second's bytes.
+#[no_mangle]
+pub extern "C" fn zlatopysk_joined(first: u16, second: u16, count: u16) -> u16
+    ensures { λ r. ⌜ r ≡ joinedOf first second count ⌝ }
+{
+    crc::joined(first, second, count)
 }
 
 // Fills the region with the picture of the text.

@@ -4,7 +4,7 @@
 use crate::implementation::Implementation;
 use crate::inputs::messages::World;
 use crate::inputs::scripts::CheckInput;
-use reference::{Mode, Refused, Replied, SensorRecord};
+use reference::{Mode, Refused, Replied, SensorRecord, START};
 use std::fmt::{self, Debug, Display, Formatter};
 
 /// What kind of answer both sides gave.
@@ -61,11 +61,41 @@ pub struct Sides<'a> {
     pub right: &'a Implementation,
 }
 
-pub fn checksum(sides: Sides, bytes: &[u8]) -> Result<Class, Difference> {
-    let input = || show(bytes);
-    let left = (sides.left.checksum)(bytes);
-    same("checksum", left, (sides.right.checksum)(bytes), input)?;
+/// The checksum of bytes from a start, at once and continued behind a cut.
+pub fn checksum(sides: Sides, start: u16, bytes: &[u8], cut: usize) -> Result<Class, Difference> {
+    let input = || format!("start {start:04X}, bytes {}, cut {cut}", show(bytes));
+    let right = (sides.right.checksum)(start, bytes);
+    same(
+        "checksum",
+        (sides.left.checksum)(start, bytes),
+        right,
+        input,
+    )?;
+    let (first, second) = bytes.split_at(cut);
+    let met = (sides.left.checksum)(start, first);
+    let continued = (sides.left.checksum)(met, second);
+    same("checksum continued", continued, right, input)?;
     Ok(Class::Answered)
+}
+
+pub fn joined(sides: Sides, first: u16, second: u16, count: u16) -> Result<Class, Difference> {
+    let input = || format!("first {first:04X}, second {second:04X}, count {count}");
+    let left = (sides.left.joined)(first, second, count);
+    let right = (sides.right.joined)(first, second, count);
+    same("joined checksum", left, right, input)?;
+    Ok(Class::Answered)
+}
+
+/// The checksums of two parts joined are that of the joined bytes.
+pub fn joined_parts(sides: Sides, bytes: &[u8], cut: usize) -> Result<Class, Difference> {
+    let input = || format!("bytes {}, cut {cut}", show(bytes));
+    let (front, back) = bytes.split_at(cut);
+    let first = (sides.left.checksum)(START, front);
+    let second = (sides.left.checksum)(START, back);
+    let left = (sides.left.joined)(first, second, back.len() as u16);
+    let whole = (sides.right.checksum)(START, bytes);
+    same("checksum of joined bytes", left, whole, input)?;
+    joined(sides, first, second, back.len() as u16)
 }
 
 pub fn total_power(sides: Sides, volts: u16, amps: u16) -> Result<Class, Difference> {

@@ -16,7 +16,8 @@ pub type WriteRecord = fn(&SensorRecord, &mut [u8]) -> Result<(), Refused>;
 /// One implementation of documents 01 and 02.
 #[derive(Clone, Copy)]
 pub struct Implementation {
-    pub checksum: fn(&[u8]) -> u16,
+    pub checksum: fn(u16, &[u8]) -> u16,
+    pub joined: fn(u16, u16, u16) -> u16,
     pub read: Read,
     pub plan: Plan,
     pub check: Check,
@@ -30,7 +31,8 @@ pub struct Implementation {
 
 /// The plain implementation.
 pub const REFERENCE: Implementation = Implementation {
-    checksum: |bytes| reference::checksum(reference::START, bytes),
+    checksum: reference::checksum,
+    joined: reference::joined,
     read: reference::read,
     plan: reference::plan,
     check: reference::check,
@@ -47,6 +49,7 @@ pub const REFERENCE: Implementation = Implementation {
 /// The proved library.
 pub const LIBRARY: Implementation = Implementation {
     checksum: zlatopysk::checksum,
+    joined: zlatopysk::joined,
     read: |text, size, region| across(zlatopysk::read(text, size, region)),
     plan: |text, password, entry, size, out| {
         across(zlatopysk::plan(text, password, entry, size, out))

@@ -25,6 +25,10 @@ const PREFIXES: [&[u8]; 6] = [
     b"@0\n00 01 02 03 04 05 06 07 08 09 0a 0b 0c 0d 0e",
     b"@ffe\n00",
 ];
+/// The strings of no, one and two bytes.
+const SHORT_STRINGS: usize = 1 + 256 + 65_536;
+/// How many numbers of bytes joined behind others are listed.
+const JOINED: usize = 2_000 + 16;
 const LIMIT_TEXTS: usize = 8;
 const LIMIT_SCRIPTS: usize = 5;
 const ONE_BYTE: usize = 3 * 256;
@@ -43,7 +47,8 @@ const SUMS: usize = 18;
 /// How many listed cases a function has.
 pub fn count(function: Function) -> usize {
     match function {
-        Function::Checksum => 1 + 256 + 65_536,
+        Function::Checksum => SHORT_STRINGS + 65_536,
+        Function::Joined => JOINED,
         Function::Call => ONE_BYTE + TWO_BYTES + HEADERS,
         Function::Read => LIMIT_TEXTS + PREFIXES.len() * SHORT_TEXTS,
         Function::Plan => LIMIT_TEXTS,
@@ -63,7 +68,12 @@ pub fn try_listed(
     index: usize,
 ) -> Result<Vec<Class>, Difference> {
     let class = match function {
-        Function::Checksum => compare::checksum(sides, &short_bytes(index))?,
+        Function::Checksum => checksum_from(sides, index)?,
+        Function::Joined => {
+            let sums = Random::new(index as u64).number();
+            let (first, second) = (sums as u16, (sums >> 16) as u16);
+            compare::joined(sides, first, second, joined_count(index))?
+        }
         Function::Call => call(sides, index)?,
         Function::Read => {
             let text = text(index);
@@ -82,6 +92,26 @@ pub fn try_listed(
         Function::Restart => restart(sides, index)?,
     };
     Ok(vec![class])
+}
+
+/// Every short string from the papers' start, then every start over a few bytes.
+fn checksum_from(sides: Sides, index: usize) -> Result<Class, Difference> {
+    if index < SHORT_STRINGS {
+        let bytes = short_bytes(index);
+        return compare::checksum(sides, START, &bytes, index % (bytes.len() + 1));
+    }
+    let start = (index - SHORT_STRINGS) as u16;
+    let length = index % 7;
+    let bytes = Random::new(index as u64).bytes(length);
+    compare::checksum(sides, start, &bytes, index / 7 % (length + 1))
+}
+
+/// Every small number of bytes, then great ones.
+fn joined_count(index: usize) -> u16 {
+    match index {
+        0..2_000 => index as u16,
+        _ => u16::MAX - (index as u16 - 2_000) * 4_096,
+    }
 }
 
 /// All strings of no, one and two bytes.

@@ -8,6 +8,7 @@ use crate::inputs::{lent, records, scripts, texts};
 use crate::listed;
 use crate::random::{mix, Random};
 use crate::recovery;
+use reference::START;
 use std::collections::BTreeMap;
 use std::fmt::{self, Display, Formatter};
 
@@ -24,10 +25,11 @@ pub enum Function {
     TotalPower,
     Cut,
     Restart,
+    Joined,
 }
 
 impl Function {
-    pub const ALL: [Function; 10] = [
+    pub const ALL: [Function; 11] = [
         Function::Checksum,
         Function::Call,
         Function::Read,
@@ -38,6 +40,7 @@ impl Function {
         Function::TotalPower,
         Function::Cut,
         Function::Restart,
+        Function::Joined,
     ];
 
     pub fn name(self) -> &'static str {
@@ -52,6 +55,7 @@ impl Function {
             Function::TotalPower => "total_power",
             Function::Cut => "cut",
             Function::Restart => "restart",
+            Function::Joined => "joined",
         }
     }
 
@@ -72,13 +76,14 @@ impl Function {
             Function::TotalPower => 2_000_000,
             Function::Cut => 12_000,
             Function::Restart => 8_000,
+            Function::Joined => 4_000,
         }
     }
 
     /// Its part of the longer run's time, in hundredths.
     pub fn part(self) -> u32 {
         match self {
-            Function::Checksum => 5,
+            Function::Checksum => 4,
             Function::Call => 16,
             Function::Read => 16,
             Function::Plan => 13,
@@ -88,13 +93,14 @@ impl Function {
             Function::TotalPower => 2,
             Function::Cut => 6,
             Function::Restart => 4,
+            Function::Joined => 1,
         }
     }
 
     /// Every kind of answer that the function can give. Number 9 is unused since T-08.
     pub fn answers(self) -> Vec<Class> {
         let refusals: &[u8] = match self {
-            Function::Checksum | Function::TotalPower => &[],
+            Function::Checksum | Function::Joined | Function::TotalPower => &[],
             Function::Call => &[1, 2, 13, 15, 16, 17],
             Function::Read => &[1, 18, 3, 4, 5],
             Function::Plan => &[1, 2, 14, 18, 3, 4, 5, 13],
@@ -182,11 +188,8 @@ fn try_random(
         Function::Cut | Function::Restart => {
             return conversation::with_cuts(sides, random, function);
         }
-        Function::Checksum => {
-            let length = random.pick(&[0, 1, 2, 7, 64, 261, 4_096, 5_000]);
-            let length = random.below(length + 1);
-            compare::checksum(sides, &random.bytes(length))?
-        }
+        Function::Checksum => random_checksum(sides, random)?,
+        Function::Joined => random_joined(sides, random)?,
         Function::Read => random_read(sides, random)?,
         Function::Plan => random_plan(sides, random)?,
         Function::Check => random_check(sides, random)?,
@@ -199,6 +202,30 @@ fn try_random(
         }
     };
     Ok(vec![class])
+}
+
+/// The papers' start, and others; any cut, nothing before it or behind it too.
+fn random_checksum(sides: Sides, random: &mut Random) -> Result<Class, Difference> {
+    let any = random.number() as u16;
+    let start = random.pick(&[START, START, 0, any, any]);
+    let length = random.pick(&[0, 1, 2, 7, 64, 261, 4_096, 5_000]);
+    let length = random.below(length + 1);
+    let bytes = random.bytes(length);
+    let cut = random.below(length + 1);
+    compare::checksum(sides, start, &bytes, random.pick(&[0, cut, cut, length]))
+}
+
+/// Any two checksums and any count, and those of two parts.
+fn random_joined(sides: Sides, random: &mut Random) -> Result<Class, Difference> {
+    let most = random.pick(&[2, 300, 300, 5_000, 65_535]);
+    let count = random.below(most + 1);
+    if random.coin() {
+        let sums = random.number();
+        return compare::joined(sides, sums as u16, (sums >> 16) as u16, count as u16);
+    }
+    let front = random.pick(&[0, 1, 300, 5_000]);
+    let front = random.below(front + 1);
+    compare::joined_parts(sides, &random.bytes(front + count), front)
 }
 
 fn random_read(sides: Sides, random: &mut Random) -> Result<Class, Difference> {

@@ -43,6 +43,11 @@ fn checksum_agrees() {
 }
 
 #[test]
+fn joined_agrees() {
+    agrees(Function::Joined);
+}
+
+#[test]
 fn call_agrees() {
     agrees(Function::Call);
 }

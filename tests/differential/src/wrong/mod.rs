@@ -50,6 +50,8 @@ pub struct Wrong {
 pub fn all() -> Vec<Wrong> {
     [
         numbers::checksums(),
+        numbers::starts(),
+        numbers::joins(),
         numbers::powers(),
         calls::packets(),
         calls::loaders(),
