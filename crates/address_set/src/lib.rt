@@ -1,5 +1,7 @@
 // Sets of addresses in a lent map of bytes, a bit for each address, the low bit of each byte first. An
 // address for which the map has no bit is in no set and cannot be added.
+#![tactic(auto)]
+
 ghost use Rattle.std.specs.Prelude.{◌≡◌};
 ghost use Rattle.address_set.specs.Bits.{marked, Marked};
 

@@ -1,6 +1,8 @@
 // Application mode: the standard commands of source documents 001 and 004, answered from the version
 // and the sensor record in the card's state. A message is decoded to a request first; then the request
 // is answered, its reply over the front of a lent buffer, which stays as it was where it is too short.
+#![tactic(auto)]
+
 ghost use Rattle.std.specs.Prelude.{◌≡◌};
 ghost use Rattle.application.specs.Request.{bare_of, request_of, reads_record};
 ghost use Rattle.application.specs.Response.{told, left, left_by, replied, reset_reply, reply_of, answer_of};

@@ -1,5 +1,7 @@
 // The arguments of the program cardtool: a command, the files that it wants, and options, whose values are the next
 // argument or follow an equals sign. What is wrong with them is said in a line on standard error.
+#![tactic(auto)]
+
 mod commands;
 mod numbers;
 

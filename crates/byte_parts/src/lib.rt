@@ -1,5 +1,7 @@
 // Parts of byte strings: their first bytes, what stands from a place on, a line, and what every byte is. None of
 // these functions asks anything of its input: a part that is not there is empty.
+#![tactic(auto)]
+
 ghost use Rattle.std.specs.Prelude.{◌-◌, ◌≤◌, length};
 
 // The first bytes of a list, at most so many.

@@ -15,6 +15,8 @@
 // A call is answered with its refusal, and whether everything was kept; or with the number of bytes in
 // the reply, these bytes, success or not, the mode, the region's checksum, and whether the rest of the
 // reply buffer was kept. A line without an order is answered with the mode and the region's checksum.
+#![tactic(auto)]
+
 mod answers;
 mod lines;
 mod settings;

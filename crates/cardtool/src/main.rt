@@ -3,6 +3,8 @@
 // it went: `refused` and a number for a refusal, nothing at all where the usage or a file was wrong, which
 // standard error then says, and anything else for a success. The launcher beside the README turns
 // that line into an exit status. The large rooms stand here once, and are lent.
+#![tactic(auto)]
+
 mod check;
 
 use arguments::Command;

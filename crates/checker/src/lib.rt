@@ -4,6 +4,8 @@
 // every byte known, and a write its range. An unknown byte stands as 0, over which only 0 can be written.
 // Where the firmware is to start the region must be the picture, and no byte unknown. `delivery` says
 // what is answered, which is what the runs over 0x00 and over 0xFF give (T-09), and what a pass is worth.
+#![tactic(auto)]
+
 ghost use Rattle.std.specs.Prelude.{◌≡◌, cond, not, ◌&&◌, ◌*◌, ◌≤◌, eqb, length, replicate};
 ghost use Rattle.firmware_text.specs.Machine.{image_of};
 ghost use Rattle.known_bits.specs.Known.{longest_map, unknown_of};

@@ -16,6 +16,8 @@
 // Each line is answered behind its label: `pass` or the refusal with its place, the number of packets that
 // succeeded, that of the bytes still unknown, and of the region and of the known bits the checksum and whether
 // they were kept as they were lent.
+#![tactic(auto)]
+
 mod answers;
 mod lines;
 mod scripts;

@@ -1,5 +1,7 @@
 // Files that the program's arguments name: read whole into a lent room, and written whole or not at all. What goes
 // wrong is said in one line on standard error. None of these functions asks anything of its input.
+#![tactic(auto)]
+
 mod new;
 mod standing;
 

@@ -1,5 +1,7 @@
 // Firmware text (TI-TXT): which texts are well-formed, what image each denotes, and the reading of
 // one hex digit. The layers above walk a text; what they promise is said in this crate's terms.
+#![tactic(auto)]
+
 ghost use Rattle.std.specs.Prelude.{◌≡◌, ◌&&◌, leb};
 ghost use Rattle.firmware_text.specs.Digit.{digit, is_hex};
 

@@ -9,9 +9,8 @@ use native.Mathlib.Omega.{arith}
 use borrow.Author.Tests.{leb-true, le-leb}
 use lib.ListN.{length, take, drop, length-drop}
 use lib.Seq.{take-add, drop-drop, length-take-le}
-use Rattle.crc.specs.Crc.{checksum_of, joined_of}
-use Rattle.crc_register.specs.Register.{register, bit_string, bits_in}
-use Rattle.crc_register.proofs.Linear.{joins}
+use Rattle.crc.specs.Crc.{checksum_of, joined_of, register, bit_string, bits_in}
+use Rattle.crc.proofs.Linear.{joins}
 use Rattle.flash.specs.Flash.{inside, range_of}
 use Rattle.flash.specs.Stretches.{Stretch, Answered, bytes_in, joined_all, StretchesJoin}
 use Rattle.flash.specs.declared.RangeSum.{RangeSum}

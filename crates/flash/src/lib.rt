@@ -1,6 +1,8 @@
 // What the loader's commands do to a flash region and ask of it: a write, which only clears bits, the
 // checksum of a range, and whether the firmware may start. An erase is `region::fill` with 0xFF. None
 // of these functions asks anything of its input.
+#![tactic(auto)]
+
 ghost use Rattle.std.specs.Prelude.{◌≡◌, cond};
 ghost use Rattle.little_endian.specs.Bytes.{stored_at};
 ghost use Rattle.flash.specs.Flash.{inside, writable, allows_of, written, write_of, range_of, starts_of};

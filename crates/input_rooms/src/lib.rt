@@ -1,4 +1,6 @@
 // Room for the longest inputs, and for one byte or one step more, so that what is too long is seen.
+#![tactic(auto)]
+
 ghost use Rattle.std.specs.Prelude.{◌≡◌, length};
 
 // Room for a firmware text one byte longer than any that is read, so that a longer one is seen.

@@ -2,6 +2,8 @@
 // known. They are counted a word at a time, and ranges of addresses are added. No public
 // function asks anything of its input: to a map longer than any region's nothing is added, and as many of
 // its bytes are unknown as the greatest region has.
+#![tactic(auto)]
+
 ghost use Rattle.std.specs.Prelude.{◌≡◌, ◌||◌, ℕ, ◌*◌, ◌≤◌, ◌<◌, length};
 ghost use Rattle.std.specs.Int.Count.{ones};
 ghost use Rattle.address_set.specs.Bits.{marked};

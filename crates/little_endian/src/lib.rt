@@ -1,6 +1,8 @@
 // Numbers as bytes, low byte first, as every field of several bytes stands in packets, scripts and
 // the sensor record: read at a place of a list of bytes, and stored at one. None of these functions
 // asks anything of its input: a byte past the end counts as 0, and what does not fit is not stored.
+#![tactic(auto)]
+
 ghost use Rattle.std.specs.Prelude.{◌≡◌, get_or};
 ghost use Rattle.little_endian.specs.Bytes.{number_at, little_endian, stored_at};
 

@@ -1,6 +1,8 @@
 // The loader of a card: its state, and what a message does to it and to the flash region. The reply is
 // a value, so that a caller sees a success without taking bytes apart; `put` turns it into bytes, and
 // is the one place that does.
+#![tactic(auto)]
+
 mod obey;
 
 ghost use Rattle.std.specs.Prelude.{◌≡◌};

@@ -2,6 +2,8 @@
 // low, checksum high. A message is judged by `acknowledgement`; its core, the core's command,
 // address and range length are read off by the others; `write` puts a packet around a core. None
 // of them asks anything of its input.
+#![tactic(auto)]
+
 ghost use Rattle.std.specs.Prelude.{◌≡◌, ◌+◌, ◌<◌, ◌≤◌, eqb, length};
 ghost use Rattle.crc.specs.Crc.{checksum_of};
 ghost use Rattle.little_endian.specs.Bytes.{stored_at};

@@ -1,6 +1,8 @@
 // The planner: the page's own script of a firmware text, written into a lent output, or a refusal that
 // leaves the output as it was. The script is written twice by the same functions: first over a buffer
 // without room, which tells its length, then over the output, which is known to have the room.
+#![tactic(auto)]
+
 ghost use Rattle.std.specs.Prelude.{[], ◌≡◌, cond, ◌<◌, ◌≤◌, leb, length, take};
 ghost use Rattle.firmware_text.specs.Machine.{image_of};
 ghost use Rattle.firmware_text.specs.Segments.{segments_of};

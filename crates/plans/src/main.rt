@@ -8,6 +8,8 @@
 // how many succeeded, the mode, and whether the region is the picture. A list has a line for each packet
 // below: its offset, command, address, number of data bytes and acknowledgement. A line without a colon is
 // a heading.
+#![tactic(auto)]
+
 mod answers;
 mod lines;
 mod packets;

@@ -1,6 +1,8 @@
 // What the loss of mains leaves of a message to the loader: the work of the message, judged without
 // doing it, what a part of that work leaves in the region, and the loader's part of the state behind a
 // restart.
+#![tactic(auto)]
+
 ghost use Rattle.std.specs.Prelude.{◌≡◌, cond, List, ℕ, ◌*◌, length, take, drop, replicate};
 ghost use Rattle.flash.specs.Flash.{allows_of};
 ghost use Rattle.little_endian.specs.Bytes.{stored_at};

@@ -1,6 +1,8 @@
 // The values of a sensor record as 87 bytes, the form in which programs in C and Rust lend them: every value in the
 // order of the structs, in its own number of bytes, low byte first, a temperature as its two's complement byte. Any
 // 87 bytes are values and any values are such bytes; the rule of a record is not judged here.
+#![tactic(auto)]
+
 mod put;
 mod take;
 

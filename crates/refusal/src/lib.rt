@@ -1,6 +1,8 @@
 // The refusals: those of document 01, one case for each row of its table but number 9, which is out of it
 // and stays unused (T-08), and in the table's order, which is the order in which they are judged; then those
 // of document 02, which says where each is judged. Every answer that refuses names one of these.
+#![tactic(auto)]
+
 ghost use Rattle.std.specs.Prelude.{◌≡◌};
 ghost use Rattle.refusal.specs.Refusal.{number_of};
 

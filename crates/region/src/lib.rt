@@ -1,5 +1,7 @@
 // A flash region of N bytes, document 01's N: the rule of its size, every byte set to one value, and
 // whether two lists of bytes are the same.
+#![tactic(auto)]
+
 ghost use Rattle.std.specs.Prelude.{◌≡◌, length, replicate};
 ghost use Rattle.region.specs.Same.{same};
 ghost use Rattle.region.specs.Size.{good_size};

@@ -1,6 +1,8 @@
 // Lines of a report: a line goes in by value and comes back with words or numbers behind what it had, and
 // is printed whole. What a line has no room for is left out. None of these functions asks anything of its
 // input.
+#![tactic(auto)]
+
 use libc::{STDERR_FILENO, STDOUT_FILENO};
 use little_endian::byte_at;
 

@@ -1,6 +1,8 @@
 // Scripts: document 01's `BSX`, a 16-bit version 1 low byte first, then packets back to back. The head
 // is made and compared here, and packets are cut off the front of what is left; the faults of a packet
 // are not judged. None of these functions asks anything of its input.
+#![tactic(auto)]
+
 ghost use Rattle.std.specs.Prelude.{◌≡◌};
 ghost use Rattle.script.specs.Script.{head, headed, front_of};
 

@@ -1,5 +1,7 @@
 // The values in the 64 bytes of a sensor record, part by part, by the offsets and bits of source
 // document 004; and whether its reserved bits are 0. The rule of the values is not judged here.
+#![tactic(auto)]
+
 ghost use Rattle.std.specs.Prelude.{◌≡◌, ◌+◌, ◌≤◌};
 ghost use Rattle.sensor_values.specs.Reading.{status_of, security_of, device_status_of, module_status_of, input_of, sensors_of, errors_of, device_of, module_of, record_of, reserved_zero};
 

@@ -1,5 +1,7 @@
 // The card's 64-byte sensor record (source document 004), read from bytes and written to bytes under
 // the rule of its values; and total power from the raw 12 V readings. A refused call changes nothing.
+#![tactic(auto)]
+
 ghost use Rattle.std.specs.Prelude.{◌≡◌};
 ghost use Rattle.sensor_record.specs.Answers.{answered, read_of, outcome, write_of};
 ghost use Rattle.sensor_record.specs.Power.{watts_of};

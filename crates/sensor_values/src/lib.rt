@@ -1,6 +1,8 @@
 // The values of the card's sensor record (source document 004), and the rule that they keep. Every
 // field of the source is here, those too that the U30 leaves 0. A value too big for its bits can be
 // held, and breaks the rule.
+#![tactic(auto)]
+
 mod rule;
 
 ghost use Rattle.std.specs.Prelude.{◌≡◌};

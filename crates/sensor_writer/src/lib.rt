@@ -1,4 +1,6 @@
 // The 64 bytes of a sensor record's values, part by part. The rule of the values is not judged here.
+#![tactic(auto)]
+
 ghost use Rattle.std.specs.Prelude.{◌≡◌, ◌+◌, ◌≤◌, length};
 ghost use Rattle.little_endian.specs.Bytes.{stored_at};
 ghost use Rattle.sensor_values.specs.Layout.{packed, status_bits, security_bits, device_status_bits, module_status_bits, input_bytes, sensor_bytes, error_bytes, device_bytes, module_bytes, bytes_of};

@@ -1,5 +1,7 @@
 // Temperatures: whole degrees from -128 to 127, which cross the bus as one byte, two's complement.
 // A byte is never used as a temperature, nor a temperature as a byte, but through these functions.
+#![tactic(auto)]
+
 ghost use Rattle.std.specs.Prelude.{◌≡◌};
 ghost use Rattle.temperature.specs.Temperature.{temperature_of, byte_of, greater_of};
 

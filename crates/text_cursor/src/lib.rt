@@ -1,6 +1,8 @@
 // A walk through a firmware text: a cursor by value, whose method hands back the next token (a
 // segment's address, or a byte with its place and address) with the moved cursor, or the place where
 // the text is malformed. No cursor is refused by a `requires`: one that no text has finds a fault.
+#![tactic(auto)]
+
 ghost use Rattle.std.specs.Prelude.{◌≡◌, ℕ, ◌+◌, ◌^◌, ◌<◌, ◌≤◌, drop, length, get_or};
 ghost use Rattle.firmware_text.specs.Digit.{IsHex};
 ghost use Rattle.firmware_text.specs.Machine.{Line, sign, half, full, gap, quit, within};

@@ -1,6 +1,8 @@
 // The image of a firmware text: whether it is sound for a region, by document 01's refusals 1, 18, 3, 4
 // and 5, each judged over the whole text before the next; and its bytes put into a region. One loop walks
 // the text for both, so that the compiler has one place to build the reading of a token into.
+#![tactic(auto)]
+
 ghost use Rattle.std.specs.Prelude.{◌≡◌, ◌≤◌, set};
 ghost use Rattle.firmware_text.specs.Machine.{image_of};
 ghost use Rattle.text_image.specs.Picture.{placed};

@@ -5,6 +5,8 @@
 // the unit so many times and the tail. Each is answered behind its label: `filled` with the region's
 // checksum, or the refusal with its place, and whether the region was kept. A line without a colon
 // is a heading.
+#![tactic(auto)]
+
 mod lines;
 
 fn main() {

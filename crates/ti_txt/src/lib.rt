@@ -1,6 +1,8 @@
 // The reader of firmware text (TI-TXT): it fills a lent region with the picture of a text's image, or
 // refuses and changes nothing. Beside it stands what the checker needs of a text: whether a buffer is
 // its picture, for which a bit for each address serves in place of a third region.
+#![tactic(auto)]
+
 ghost use Rattle.std.specs.Prelude.{◌≡◌, ◌&&◌, ◌||◌, cond, ◌≤◌, eqb, ltb, length, get_or};
 ghost use Rattle.region.specs.Same.{same};
 ghost use Rattle.firmware_text.specs.Machine.{image_of};

@@ -1,5 +1,7 @@
 // `cuts`: how a card comes up if the power fails while a script is sent to it, packet by packet. The regions that cuts
 // leave, and the restart, are those of the proved model of the card.
+#![tactic(auto)]
+
 use arguments::Options;
 use byte_parts::{front, front_mut};
 use files::Reading;

@@ -1,5 +1,7 @@
 // What a firmware text puts into a region, for two commands. `image` shows its segments, how many bytes they use, its checksum,
 // and a map of the region; `sums`, a module of its own, the checksums of the segments and the packets that ask a card for them.
+#![tactic(auto)]
+
 mod segments;
 mod sums;
 

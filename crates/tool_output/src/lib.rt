@@ -1,5 +1,7 @@
 // The commands that write a file: `plan` a script, `picture` a region. The public functions judge what is read; a file
 // is written when they have answered, whole or not at all.
+#![tactic(auto)]
+
 pub mod picture;
 pub mod plan;
 

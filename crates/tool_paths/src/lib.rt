@@ -1,5 +1,7 @@
 // Paths as the system takes them: which file stands at one, of what kind it is, and where a link points. A path
 // is a slice of at most 4,095 bytes. None of these functions asks anything of its input.
+#![tactic(auto)]
+
 ghost use Rattle.io.specs.Counts.{IsPrefixLen};
 ghost use Rattle.libc.specs.Io.{Ended};
 

@@ -1,4 +1,6 @@
 // `record`: a sensor record of 64 bytes in words.
+#![tactic(auto)]
+
 mod values;
 
 use arguments::Options;

@@ -1,4 +1,6 @@
 // `show`: the packets of a script, a line each.
+#![tactic(auto)]
+
 use arguments::Options;
 use byte_parts::front;
 use files::Reading;

@@ -1,4 +1,6 @@
 // What the tool says of a check: a pass, or a refusal with its place and what the loader answers there.
+#![tactic(auto)]
+
 use loader::{Loader, Mode, Reply};
 use refusal::Refusal;
 use report::Line;

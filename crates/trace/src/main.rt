@@ -1,5 +1,7 @@
 // The trace of a script: `trace < script.bsx` writes document 01's lines to standard output. One byte
 // more is read than an input may have, so that a longer one is seen.
+#![tactic(auto)]
+
 use libc::{STDIN_FILENO, STDOUT_FILENO};
 use trace_text::Traced;
 

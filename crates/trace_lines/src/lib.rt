@@ -1,5 +1,7 @@
 // The lines of a trace, document 01's, and of the cuts, document 02's: the line of a packet, of a cut
 // and of the end, each handed back by value. What follows what in a trace is the layer above.
+#![tactic(auto)]
+
 mod lines;
 mod put;
 

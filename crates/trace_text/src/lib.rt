@@ -1,6 +1,8 @@
 // The trace of a script: document 01's trace program as a function that writes its text into a lent
 // buffer, and the cuts of a script's packets, document 02's program, likewise. The loader that is run
 // is the one that the card's call runs; the lines are those of `trace_lines`.
+#![tactic(auto)]
+
 mod cuts;
 mod put;
 

@@ -4,6 +4,8 @@
 //
 // Bytes are two hexadecimal digits each, `256*ff` is a byte so many times, and bytes in brackets are a core, which stands
 // for the packet around it. A text is answered line by line, a stroke behind each, or by its length and its checksum.
+#![tactic(auto)]
+
 use byte_parts::behind;
 use region::same;
 use trace_text::Traced;

@@ -2,6 +2,8 @@
 // words, the text that words stand for (`words`), bytes and packets (`packets`), numbers asked for by
 // arguments, a password, and answers printed (`show`). None
 // of these functions asks anything of its input.
+#![tactic(auto)]
+
 pub mod packets;
 pub mod show;
 pub mod words;

@@ -12,6 +12,8 @@
 // length of an output and 27 values (board status, security, status of both devices; the others are
 // fixed), for the record written over it or its refusal. `b`: offset and length of a field of the
 // record, then the record (nothing for zeros), for a map of the bits that may be set in it besides.
+#![tactic(auto)]
+
 mod lines;
 mod packets;
 mod records;

@@ -1,7 +1,7 @@
 -- The worked numbers of document 01 hold.
 -- Assumes nothing.
 use mathlib.Core.Path.{refl}
-use Rattle.crc_register.specs.Register.{register, bit_string, bits_of, bits_in, bit_in, shifted}
+use Rattle.crc.specs.Crc.{register, bit_string, bits_of, bits_in, bit_in, shifted}
 use Rattle.little_endian.specs.Bytes.{number_at}
 use Rattle.packet.specs.Packet.{acknowledgement_of}
 use Rattle.worked.specs.Worked.{AllHold, rows}

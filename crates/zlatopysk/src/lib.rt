@@ -2,6 +2,8 @@
 // declares them. Each takes what its namesake in the crates below takes, and writes its answer as numbers into memory that the
 // caller lends, or answers a number alone. None asks anything of its input, and each contract fixes the answer and every lent
 // byte. A slice is a pointer and a length, an array a pointer alone.
+#![tactic(auto)]
+
 mod numbers;
 
 ghost use Rattle.std.specs.Prelude.{◌≡◌};
