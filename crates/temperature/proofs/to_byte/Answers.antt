@@ -14,8 +14,7 @@ use Rattle.temperature.specs.Temperature.{byte_of}
 use Rattle.test_laws.proofs.Tests.{there}
 use Rattle.temperature.proofs.EveryByte.{every-temperature, same_z, same-z}
 use Rattle.temperature.proofs.Laws.{byte-lt}
-use Rattle.temperature.proofs.to_byte.Statement.{statement}
-use Rattle.temperature.proofs.to_byte.Tie as tie
+use Rattle.temperature.proofs.to_byte.Goals as goal
 
 -- zero or more: the number itself
 positive : (z : ℤ) → mag z < 128 → le_z (pos 0) z ≡ true → (T (non_neg z) × Fits w8 (nat_abs z)) × (nat_abs z ≡ byte_of z)
@@ -51,24 +50,20 @@ module _ (c : tie.Else1) where
   held : to_z w16 (of_z w16 (raised c.before.args.t)) ≡ pos (byte_of c.before.args.t)
   held = rw sum (to_z-of_z wide)
 
-cast-result : tie.Need-overflow-cast-result
-cast-result c = rw (to_z-of_z c.before.ranges.t) (itself c).0
+pub overflow_cast-result : goal.overflow_cast-result
+overflow_cast-result c = rw (to_z-of_z c.ranges.t) (itself c).0
 
-cast-result-2 : tie.Need-overflow-cast-result-2
-cast-result-2 c = rw (to_z-of_z c.before.ranges.t) (record { sfits = omega (arith, c.before.ranges.t.sfits) })
+pub overflow_cast-result-else-t-ge0 : goal.overflow_cast-result-else-t-ge0
+overflow_cast-result-else-t-ge0 c = rw (to_z-of_z c.ranges.t) (record { sfits = omega (arith, c.ranges.t.sfits) })
 
-add-result : tie.Need-overflow-add-result
-add-result c = subst (λ (z : ℤ). SFits w16 z) (sym (sum c)) (wide c)
+pub overflow_add-result : goal.overflow_add-result
+overflow_add-result c = subst (λ (z : ℤ). SFits w16 z) (sym (sum c)) (wide c)
 
-cast-result-3 : tie.Need-overflow-cast-result-3
-cast-result-3 c = rw (held c) (tt, record { fits = small c })
+pub overflow_cast-result-else-t-ge0-2 : goal.overflow_cast-result-else-t-ge0-2
+overflow_cast-result-else-t-ge0-2 c = rw (held c) (tt, record { fits = small c })
 
-returns : tie.Need-returns
-returns c = rw (to_z-of_z c.before.ranges.t) (itself c).1
+pub returns-then-t-ge0 : goal.returns-then-t-ge0
+returns-then-t-ge0 c = rw (to_z-of_z c.ranges.t) (itself c).1
 
-returns-2 : tie.Need-returns-2
-returns-2 c = rw (held c)
-
-pub to-byte-spec : {M : Type 1} → statement M
-to-byte-spec =
-    tie.close (tie.spec cast-result cast-result-2 add-result cast-result-3 returns returns-2)
+pub returns-else-t-ge0 : goal.returns-else-t-ge0
+returns-else-t-ge0 c = rw (held c)
