@@ -50,7 +50,7 @@ pub fn store(new: &[u8], at: usize, out: &mut [u8])
     if out.len() - at < new.len() {
         return;
     }
-    bytes::copy(new, &mut out[at..]);
+    out[at..at + new.len()].copy_from_slice(new);
 }
 
 // The two bytes of a number stored from a place on, if they fit there.
