@@ -6,9 +6,7 @@ use mathlib.Core.Bool.{Bool, true, false, cond}
 use mathlib.Core.List.{List}
 use Rattle.little_endian.specs.Bytes.{stored_at}
 use Rattle.flash.specs.Flash.{written, write_of}
-use borrow.Author.Rules.{rules}
-use Rattle.flash.proofs.write.Statement.{statement}
-use Rattle.flash.proofs.write.Tie as tie
+use Rattle.flash.proofs.write.Goals as goal
 
 -- what is stored if it may be, and the answer, by the test
 told : (new : List ℕ) (address : ℕ) (region : List ℕ) (t u : Bool) → t ≡ u
@@ -16,21 +14,9 @@ told : (new : List ℕ) (address : ℕ) (region : List ℕ) (t u : Bool) → t �
 told new address region t true e = ap (λ (b : Bool). written b (cond b (stored_at address new region) region)) e
 told new address region t false e = ap (λ (b : Bool). written b (cond b (stored_at address new region) region)) e
 
-allows-requires : tie.Need-allows-requires
-allows-requires c κs = search rules
-
-store-if-requires : tie.Need-store-if-requires
-store-if-requires c κs = search rules
-
-same_length : tie.Need-same-length
-same_length c = search rules
-
-returns : tie.Need-returns
+pub returns : goal.returns
 unfolding write_of
 returns c =
     let a = c.before.before.before.before.before.before.before.before.args in
-    let allows = c.before.before.before.before.allows in
-    ap (written allows.result) c.before.before.store-if.ensures ∙ told a.new.now a.address a.region.now _ _ allows.ensures
-
-pub write_spec : {M : Type 1} → statement M
-write_spec = tie.close (tie.spec allows-requires store-if-requires same_length returns)
+    let allows = c.allows-allowed in
+    ap (written allows.result) c.store_if.ensures ∙ told a.new.now a.address a.region.now _ _ allows.ensures
