@@ -7,6 +7,7 @@ use native.Mathlib.Nat.{add-sub_cancel_left}
 use borrow.Author.Tests.{leb-true}
 use lib.ListN.{length, take, drop}
 use Rattle.flash.specs.Flash.{inside, writable}
+use borrow.Author.Rules.{rules}
 use Rattle.flash.proofs.allows.Goals as goal
 
 pub returns-then-not-is_inside : goal.returns-then-not-is_inside

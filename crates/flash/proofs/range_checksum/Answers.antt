@@ -9,6 +9,7 @@ use lib.ListN.{length, take, drop}
 use Rattle.crc.specs.Crc.{checksum_of}
 use Rattle.flash.specs.Flash.{inside, range_of}
 use Rattle.flash.specs.declared.RangeSum.TheVariants.{Sum}
+use borrow.Author.Rules.{rules}
 use Rattle.flash.proofs.range_checksum.Goals as goal
 
 pub returns-then-not-is_inside : goal.returns-then-not-is_inside

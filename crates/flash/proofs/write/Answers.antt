@@ -17,6 +17,6 @@ told new address region t false e = ap (λ (b : Bool). written b (cond b (stored
 pub returns : goal.returns
 unfolding write_of
 returns c =
-    let a = c.before.before.before.before.before.before.before.before.args in
+    let a = c.args in
     let allows = c.allows-allowed in
     ap (written allows.result) c.store_if.ensures ∙ told a.new.now a.address a.region.now _ _ allows.ensures
