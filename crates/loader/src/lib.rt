@@ -12,7 +12,7 @@ ghost use Rattle.loader.specs.Reply.{bytes_of, placed, placed_of};
 use obey::obey;
 pub use obey::{behind, holds_back};
 
-#[derive(Drop)]
+#[derive(Clone, Copy)]
 pub enum Mode {
     Application,
     Locked,
@@ -20,7 +20,7 @@ pub enum Mode {
 }
 
 // The loader's part of a card's state.
-#[derive(Drop)]
+#[derive(Clone, Copy)]
 pub struct Loader {
     pub mode: Mode,
     pub expected: u16,

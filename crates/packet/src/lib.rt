@@ -14,7 +14,7 @@ ghost use Rattle.packet.specs.Packet.{address_of, range_length_of, packet_of, wr
 const LONGEST_CORE: usize = 261;
 
 // The rows of document 01's table of commands; Unknown is every other code or core length.
-#[derive(Drop)]
+#[derive(Clone, Copy)]
 pub enum Command {
     Password,
     Erase,

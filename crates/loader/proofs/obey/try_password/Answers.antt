@@ -11,9 +11,7 @@ use Rattle.loader.specs.declared.Loader.{Loader}
 use Rattle.loader.specs.declared.Mode.{Mode}
 use Rattle.loader.specs.declared.Mode.TheVariants.{Unlocked}
 use Rattle.loader.specs.declared.Reply.TheVariants.{Message}
-use borrow.Author.Rules.{rules}
-use Rattle.loader.proofs.obey.try_password.Statement.{statement}
-use Rattle.loader.proofs.obey.try_password.Tie as tie
+use Rattle.loader.proofs.obey.try_password.Goals as goal
 
 -- mode and message, by the test
 entered : (loader : Loader) (region : List ℕ) (t u : Bool) → t ≡ u
@@ -22,34 +20,12 @@ entered : (loader : Loader) (region : List ℕ) (t u : Bool) → t ≡ u
 entered loader region t true e = ap (λ (b : Bool). outcome (in_mode (cond b Unlocked loader.mode) loader) region (Message (cond b 0x00 0x05))) e
 entered loader region t false e = ap (λ (b : Bool). outcome (in_mode (cond b Unlocked loader.mode) loader) region (Message (cond b 0x00 0x05))) e
 
-behind-requires : tie.Need-behind-requires
-behind-requires c κs = search rules
-
-same-requires : tie.Need-same-requires
-same-requires c κs = search rules
-
-after-password-requires : tie.Need-after-password-requires
-after-password-requires c κs = search rules
-
-password-message-requires : tie.Need-password-message-requires
-password-message-requires c κs = search rules
-
-returns : tie.Need-returns
+pub returns : goal.returns
 unfolding password_of
 returns c =
-    let a = c.before.before.before.before.before.before.args in
-    let test : c.before.before.same.result ≡ same (drop 1 a.core.now) a.password.now =
-    c.before.before.same.ensures ∙ ap (λ (l : List ℕ). same l a.password.now) c.before.before.before.behind.ensures in
+    let a = c.args in
+    let test : c.same-right.result ≡ same (drop 1 a.core.now) a.password.now =
+    c.same-right.ensures ∙ ap (λ (l : List ℕ). same l a.password.now) c.behind.ensures in
     λ region.
-    ap₂ (λ (m : Mode) (n : ℕ). outcome (in_mode m a.loader) region (Message n)) c.before.after-password.ensures c.password-message.ensures
+    ap₂ (λ (m : Mode) (n : ℕ). outcome (in_mode m a.loader) region (Message n)) c.after_password.ensures c.password_message-message.ensures
     ∙ entered a.loader region _ _ test
-
-pub try-password-spec : {M : Type 1} → statement M
-try-password-spec =
-    tie.close
-    (tie.spec
-    behind-requires
-    same-requires
-    after-password-requires
-    password-message-requires
-    returns)
