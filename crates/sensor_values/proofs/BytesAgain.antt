@@ -9,8 +9,10 @@ use lib.ListN.{length, get_or}
 use Rattle.little_endian.specs.Bytes.{Bytes, number_at, little_endian}
 use Rattle.little_endian.proofs.Numbers.{stretch, stretched, bytes-again, number_lt}
 use Rattle.temperature.proofs.Laws.{byte-again}
-use Rattle.sensor_values.specs.Layout.{packed, status_bits, security_bits, device_status_bits, module_status_bits, input_bytes, sensor_bytes, error_bytes, device_bytes, module_bytes, bytes_of}
-use Rattle.sensor_values.specs.Reading.{◌bits◌to◌, ◌bit◌, status_of, security_of, device_status_of, module_status_of, input_of, sensors_of, errors_of, device_of, module_of, record_of, reserved, reserved_zero}
+use Rattle.sensor_values.specs.Layout.{packed, status_bits, security_bits, device_status_bits, module_status_bits, input_bytes}
+use Rattle.sensor_values.specs.Layout.{sensor_bytes, error_bytes, device_bytes, module_bytes, bytes_of}
+use Rattle.sensor_values.specs.Reading.{◌bits◌to◌, ◌bit◌, status_of, security_of, device_status_of, module_status_of, input_of, sensors_of}
+use Rattle.sensor_values.specs.Reading.{errors_of, device_of, module_of, record_of, reserved, reserved_zero}
 use Rattle.sensor_values.proofs.Fields.{zero-each, word}
 
 module _ (b : List ℕ) (bytes : Bytes b) where
@@ -51,7 +53,8 @@ module _ (b : List ℕ) (bytes : Bytes b) where
       (byte-again (get_or b 8 0) (bytes 8) i ∷ byte-again (get_or b 9 0) (bytes 9) i ∷ [])
       ++ input-again 10 i ++ input-again 14 i ++ input-again 18 i ++ bytes-again b bytes 2 22 i
 
-  pub errors-again : (at : ℕ) → error_bytes (errors_of at b) ≡ stretch 2 at b ++ stretch 2 (at + 2) b ++ stretch 2 (at + 4) b ++ stretch 4 (at + 6) b
+  pub errors-again : (at : ℕ)
+      → error_bytes (errors_of at b) ≡ stretch 2 at b ++ stretch 2 (at + 2) b ++ stretch 2 (at + 4) b ++ stretch 4 (at + 6) b
   unfolding errors_of error_bytes
   errors-again at = λ i.
       bytes-again b bytes 2 at i ++ bytes-again b bytes 2 (at + 2) i ++ bytes-again b bytes 2 (at + 4) i ++ bytes-again b bytes 4 (at + 6) i
@@ -62,7 +65,8 @@ module _ (b : List ℕ) (bytes : Bytes b) where
       ++ (stretch 2 (at + 3) b ++ stretch 2 (at + 3 + 2) b ++ stretch 2 (at + 3 + 4) b ++ stretch 4 (at + 3 + 6) b)
   unfolding device_of device_bytes
   device-again at = λ i.
-      (device-status-again at i ∷ byte-again (get_or b (at + 1) 0) (bytes (at + 1)) i ∷ byte-again (get_or b (at + 2) 0) (bytes (at + 2)) i ∷ [])
+      (device-status-again at i
+      ∷ byte-again (get_or b (at + 1) 0) (bytes (at + 1)) i ∷ byte-again (get_or b (at + 2) 0) (bytes (at + 2)) i ∷ [])
       ++ errors-again (at + 3) i
 
   module-again : (at : ℕ) → number_at 2 (at + 1) b bit 15 ≡ 0 → module_bytes (module_of at b) ≡ get_or b at 0 ∷ stretch 2 (at + 1) b

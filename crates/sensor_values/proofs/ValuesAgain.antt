@@ -11,9 +11,12 @@ use lib.ListN.{length}
 use Rattle.little_endian.specs.Bytes.{number_at}
 use Rattle.little_endian.proofs.Numbers.{number-again}
 use Rattle.temperature.proofs.Laws.{temperature-again}
-use Rattle.sensor_values.specs.Layout.{◌wide◌, packed, status_bits, security_bits, device_status_bits, module_status_bits, input_bytes, sensor_bytes, error_bytes, device_bytes, module_bytes, bytes_of}
-use Rattle.sensor_values.specs.Rule.{fitting, in_range, status_fits, security_fits, input_fits, sensors_fit, errors_fit, device_fits, module_fits, fields}
-use Rattle.sensor_values.specs.Reading.{status_of, security_of, device_status_of, module_status_of, input_of, sensors_of, errors_of, device_of, module_of, record_of, reserved, reserved_zero}
+use Rattle.sensor_values.specs.Layout.{◌wide◌, packed, status_bits, security_bits, device_status_bits, module_status_bits, input_bytes}
+use Rattle.sensor_values.specs.Layout.{sensor_bytes, error_bytes, device_bytes, module_bytes, bytes_of}
+use Rattle.sensor_values.specs.Rule.{fitting, in_range, status_fits, security_fits, input_fits, sensors_fit, errors_fit, device_fits}
+use Rattle.sensor_values.specs.Rule.{module_fits, fields}
+use Rattle.sensor_values.specs.Reading.{status_of, security_of, device_status_of, module_status_of, input_of, sensors_of, errors_of}
+use Rattle.sensor_values.specs.Reading.{device_of, module_of, record_of, reserved, reserved_zero}
 use Rattle.sensor_values.specs.declared.BoardStatus.{BoardStatus}
 use Rattle.sensor_values.specs.declared.SecurityStatus.{SecurityStatus}
 use Rattle.sensor_values.specs.declared.InputSensor.{InputSensor}
@@ -219,11 +222,15 @@ module _ (r : SensorRecord) (e : fields r ≡ true) where
 
   lower_word : number_at 2 51 (bytes_of r) ≡ packed (module_status_bits r.module0.status)
   unfolding number_at bytes_of sensor_bytes input_bytes device_bytes error_bytes module_bytes
-  lower_word = let bits = module_status_bits r.module0.status in number-again 2 (packed bits) (packed_lt bits (module-fit r.module0 parts.1.1.1.1.1.0))
+  lower_word =
+      let bits = module_status_bits r.module0.status in
+      number-again 2 (packed bits) (packed_lt bits (module-fit r.module0 parts.1.1.1.1.1.0))
 
   upper-word : number_at 2 54 (bytes_of r) ≡ packed (module_status_bits r.module1.status)
   unfolding number_at bytes_of sensor_bytes input_bytes device_bytes error_bytes module_bytes
-  upper-word = let bits = module_status_bits r.module1.status in number-again 2 (packed bits) (packed_lt bits (module-fit r.module1 parts.1.1.1.1.1.1.0))
+  upper-word =
+      let bits = module_status_bits r.module1.status in
+      number-again 2 (packed bits) (packed_lt bits (module-fit r.module1 parts.1.1.1.1.1.1.0))
 
   -- the last 8 bytes are 0
   last-words : (number_at 4 56 (bytes_of r) ≡ 0) × (number_at 4 60 (bytes_of r) ≡ 0)

@@ -9,7 +9,7 @@ ghost use Rattle.std.specs.Prelude.{◌≡◌};
 ghost use Rattle.sensor_values.specs.Rule.{sound};
 
 // Board status information.
-#[derive(Drop)]
+#[derive(Clone, Copy)]
 pub struct BoardStatus {
     // Events of each kind, 0 to 15.
     pub tcrit: u8,
@@ -25,7 +25,7 @@ pub struct BoardStatus {
 }
 
 // The control of one device's flash.
-#[derive(Drop)]
+#[derive(Clone, Copy)]
 pub struct FlashControl {
     // 0: the primary flash is selected, 1: the recovery flash.
     pub recovery: u8,
@@ -36,7 +36,7 @@ pub struct FlashControl {
 }
 
 // Board security status information.
-#[derive(Drop)]
+#[derive(Clone, Copy)]
 pub struct SecurityStatus {
     // 0: the controller is connected to device 1, 1: to device 2.
     pub spi_device: u8,
@@ -49,14 +49,14 @@ pub struct SecurityStatus {
 }
 
 // One input sensor, raw: a unit of the 12 V input is 1.25 mA or 1.25 mV.
-#[derive(Drop)]
+#[derive(Clone, Copy)]
 pub struct InputSensor {
     pub current: u16,
     pub voltage: u16,
 }
 
 // The board's sensors. Temperatures are in degrees Celsius, total power is in watts.
-#[derive(Drop)]
+#[derive(Clone, Copy)]
 pub struct BoardSensors {
     pub inlet: i8,
     pub outlet: i8,
@@ -67,7 +67,7 @@ pub struct BoardSensors {
 }
 
 // A device's status information: four pins, and its heartbeat's count, 0 to 15.
-#[derive(Drop)]
+#[derive(Clone, Copy)]
 pub struct DeviceStatus {
     pub done: u8,
     pub init_b: u8,
@@ -77,7 +77,7 @@ pub struct DeviceStatus {
 }
 
 // A device's advanced error counters.
-#[derive(Drop)]
+#[derive(Clone, Copy)]
 pub struct ErrorCounters {
     pub ddr_uncorrectable: u16,
     pub ddr_correctable: u16,
@@ -86,7 +86,7 @@ pub struct ErrorCounters {
 }
 
 // One device.
-#[derive(Drop)]
+#[derive(Clone, Copy)]
 pub struct Device {
     pub status: DeviceStatus,
     pub fpga_temperature: i8,
@@ -96,7 +96,7 @@ pub struct Device {
 
 // A network module's status: two bits of rx_loss, tx_disable and tx_fault, four of rate_select, one of
 // each other.
-#[derive(Drop)]
+#[derive(Clone, Copy)]
 pub struct ModuleStatus {
     pub present: u8,
     pub interrupt: u8,
@@ -110,14 +110,14 @@ pub struct ModuleStatus {
 }
 
 // One network module.
-#[derive(Drop)]
+#[derive(Clone, Copy)]
 pub struct NetworkModule {
     pub temperature: i8,
     pub status: ModuleStatus,
 }
 
 // The whole record.
-#[derive(Drop)]
+#[derive(Clone, Copy)]
 pub struct SensorRecord {
     pub status: BoardStatus,
     pub security: SecurityStatus,

@@ -1,6 +1,7 @@
 // The rule of a record. Each part is one expression with no branch.
 ghost use Rattle.std.specs.Prelude.{◌≡◌};
-ghost use Rattle.sensor_values.specs.Rule.{status_fits, security_fits, device_fits, module_fits, fields, status_unused, sensors_unused, devices_unused, module_unused, unused};
+ghost use Rattle.sensor_values.specs.Rule.{status_fits, security_fits, device_fits, module_fits, fields, status_unused, sensors_unused};
+ghost use Rattle.sensor_values.specs.Rule.{devices_unused, module_unused, unused};
 
 use crate::{BoardSensors, BoardStatus, Device, NetworkModule, SecurityStatus, SensorRecord};
 

@@ -3,7 +3,8 @@
 
 ghost use Rattle.std.specs.Prelude.{◌≡◌, ◌+◌, ◌≤◌, length};
 ghost use Rattle.little_endian.specs.Bytes.{stored_at};
-ghost use Rattle.sensor_values.specs.Layout.{packed, status_bits, security_bits, device_status_bits, module_status_bits, input_bytes, sensor_bytes, error_bytes, device_bytes, module_bytes, bytes_of};
+ghost use Rattle.sensor_values.specs.Layout.{packed, status_bits, security_bits, device_status_bits, module_status_bits, input_bytes};
+ghost use Rattle.sensor_values.specs.Layout.{sensor_bytes, error_bytes, device_bytes, module_bytes, bytes_of};
 
 use sensor_values::{
     BoardSensors, BoardStatus, Device, DeviceStatus, ErrorCounters, InputSensor, ModuleStatus,

@@ -40,4 +40,4 @@ machine-byte (negsuc n) = refl
 
 -- a temperature comes back from the machine's bits
 pub machine-again : (z : ℤ) → mag z < 128 → to_z w8 (of_z w8 z) ≡ z
-machine-again z h = to_z-of_z (record { sfits = h })
+machine-again z h = to_z-of_z {w = w8} (record { sfits = h })

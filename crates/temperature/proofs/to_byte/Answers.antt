@@ -31,39 +31,37 @@ negative z h e =
     (there (not (le_z (pos 0) z)) (same_z (raised z) (pos (byte_of z))) (ap not e)
     (every-temperature (λ z. not (not (le_z (pos 0) z)) || same_z (raised z) (pos (byte_of z))) refl refl z h))
 
--- at zero or more
-module _ (c : tie.Then1) where
-  itself : (T (non_neg c.before.args.t) × Fits w8 (nat_abs c.before.args.t)) × (nat_abs c.before.args.t ≡ byte_of c.before.args.t)
-  itself = positive c.before.args.t c.before.ranges.t.sfits (rw (to_z-of_z c.before.ranges.t) at c.if1.true)
+-- what the sum is as the machine holds it
+module _ (z : ℤ) (h : mag z < 128) (e : le_z (pos 0) z ≡ false) where
+  small : byte_of z < 256
+  small = byte-lt z h
 
--- below zero
-module _ (c : tie.Else1) where
-  sum : raised c.before.args.t ≡ pos (byte_of c.before.args.t)
-  sum = negative c.before.args.t c.before.ranges.t.sfits (rw (to_z-of_z c.before.ranges.t) at c.if1.false)
-
-  small : byte_of c.before.args.t < 256
-  small = byte-lt c.before.args.t c.before.ranges.t.sfits
-
-  wide : SFits w16 (pos (byte_of c.before.args.t))
+  wide : SFits w16 (pos (byte_of z))
   wide = record { sfits = omega (arith, small) }
 
-  held : to_z w16 (of_z w16 (raised c.before.args.t)) ≡ pos (byte_of c.before.args.t)
-  held = rw sum (to_z-of_z wide)
+  held : to_z w16 (of_z w16 (raised z)) ≡ pos (byte_of z)
+  held = rw (negative z h e) (to_z-of_z wide)
 
 pub overflow_cast-result : goal.overflow_cast-result
-overflow_cast-result c = rw (to_z-of_z c.ranges.t) (itself c).0
+overflow_cast-result c =
+    rw (to_z-of_z c.ranges.t) (positive c.args.t c.ranges.t.sfits (rw (to_z-of_z c.ranges.t) at c.if-t-ge0.true)).0
 
 pub overflow_cast-result-else-t-ge0 : goal.overflow_cast-result-else-t-ge0
 overflow_cast-result-else-t-ge0 c = rw (to_z-of_z c.ranges.t) (record { sfits = omega (arith, c.ranges.t.sfits) })
 
 pub overflow_add-result : goal.overflow_add-result
-overflow_add-result c = subst (λ (z : ℤ). SFits w16 z) (sym (sum c)) (wide c)
+overflow_add-result c =
+    let below = rw (to_z-of_z c.ranges.t) at c.if-t-ge0.false in
+    subst (λ (z : ℤ). SFits w16 z) (sym (negative c.args.t c.ranges.t.sfits below)) (wide c.args.t c.ranges.t.sfits below)
 
 pub overflow_cast-result-else-t-ge0-2 : goal.overflow_cast-result-else-t-ge0-2
-overflow_cast-result-else-t-ge0-2 c = rw (held c) (tt, record { fits = small c })
+overflow_cast-result-else-t-ge0-2 c =
+    let below = rw (to_z-of_z c.ranges.t) at c.if-t-ge0.false in
+    rw (held c.args.t c.ranges.t.sfits below) (tt, record { fits = small c.args.t c.ranges.t.sfits below })
 
 pub returns-then-t-ge0 : goal.returns-then-t-ge0
-returns-then-t-ge0 c = rw (to_z-of_z c.ranges.t) (itself c).1
+returns-then-t-ge0 c =
+    rw (to_z-of_z c.ranges.t) (positive c.args.t c.ranges.t.sfits (rw (to_z-of_z c.ranges.t) at c.if-t-ge0.true)).1
 
 pub returns-else-t-ge0 : goal.returns-else-t-ge0
-returns-else-t-ge0 c = rw (held c)
+returns-else-t-ge0 c = rw (held c.args.t c.ranges.t.sfits (rw (to_z-of_z c.ranges.t) at c.if-t-ge0.false))

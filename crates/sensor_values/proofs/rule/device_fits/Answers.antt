@@ -7,15 +7,13 @@ use native.Mathlib.Omega.{arith}
 use borrow.Author.Tests.{lt-ltb}
 use lib.Signed.{mag}
 use Rattle.sensor_values.specs.Rule.{device_fits, errors_fit}
-use Rattle.sensor_values.proofs.rule.device_fits.Statement.{statement}
-use Rattle.sensor_values.proofs.rule.device_fits.Tie as tie
+use Rattle.sensor_values.proofs.rule.device_fits.Goals as goal
 
-returns : tie.Need-returns
+pub returns : goal.returns
 unfolding device_fits errors_fit
 returns c =
-    let start = c.before.before.before.before.before.before in
-    let d = start.args.d in
-    let good = start.well-formed in
+    let d = c.args.d in
+    let good = c.well_formed in
     let fpga : mag d.fpga_temperature < 128 = omega (arith, good) in
     let hbm : mag d.hbm_temperature < 128 = omega (arith, good) in
     simp (
@@ -29,6 +27,3 @@ returns c =
       and-true,
     )
     refl
-
-pub device-fits-spec : {M : Type 1} → statement M
-device-fits-spec = tie.close (tie.spec returns)

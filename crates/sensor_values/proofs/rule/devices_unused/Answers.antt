@@ -3,12 +3,8 @@
 use mathlib.Core.Bool.{and-true, and_assoc}
 use Rattle.temperature.proofs.Laws.{machine-byte}
 use Rattle.sensor_values.specs.Rule.{devices_unused}
-use Rattle.sensor_values.proofs.rule.devices_unused.Statement.{statement}
-use Rattle.sensor_values.proofs.rule.devices_unused.Tie as tie
+use Rattle.sensor_values.proofs.rule.devices_unused.Goals as goal
 
-returns : tie.Need-returns
+pub returns : goal.returns
 unfolding devices_unused
 returns c = simp (machine-byte, and_assoc, and-true)
-
-pub devices-unused-spec : {M : Type 1} → statement M
-devices-unused-spec = tie.close (tie.spec returns)

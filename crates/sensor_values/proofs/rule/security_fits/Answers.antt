@@ -3,12 +3,8 @@
 use mathlib.Core.Path.{refl}
 use mathlib.Core.Bool.{and-true, and_assoc}
 use Rattle.sensor_values.specs.Rule.{security_fits}
-use Rattle.sensor_values.proofs.rule.security_fits.Statement.{statement}
-use Rattle.sensor_values.proofs.rule.security_fits.Tie as tie
+use Rattle.sensor_values.proofs.rule.security_fits.Goals as goal
 
-returns : tie.Need-returns
+pub returns : goal.returns
 unfolding security_fits
 returns c = simp (and_assoc, and-true) refl
-
-pub security-fits-spec : {M : Type 1} → statement M
-security-fits-spec = tie.close (tie.spec returns)
