@@ -16,7 +16,7 @@ const START: u64 = 17;
 
 // A place in a text and how one came there. Its fields are all of one size: a cursor is copied for each
 // byte of an image, and holes in it would cost more than the reading.
-#[derive(Drop)]
+#[derive(Clone, Copy)]
 pub struct Cursor {
     pub at: usize,
     // the pairs of the line so far; 0 at a line's start, below a segment; START and above at the start of the text
@@ -26,7 +26,7 @@ pub struct Cursor {
 }
 
 // What stands next in a text.
-#[derive(Drop)]
+#[derive(Clone, Copy)]
 pub enum Token {
     // a line that opens a segment
     Segment {

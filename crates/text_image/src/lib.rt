@@ -48,6 +48,7 @@ pub fn refuse(why: Refusal, place: usize) -> Verdict
 }
 
 // What is found with one byte more.
+#[tactic(auto, unfolding(crate::specs::Walk::noted))]
 fn note(found: Found, inside: bool, again: bool, place: usize) -> Found
     ensures { result ≡ noted found inside again place }
 {
