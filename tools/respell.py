@@ -16,7 +16,7 @@ import sys
 # Facts, which begin with a capital.
 FACTS = {"putIfRoom": "PutIfRoom", "putBehind": "PutBehind", "allHold": "AllHold"}
 # The fact `holds` of these crates alone: elsewhere it is an English word.
-HOLDS = ("worked", "trace_lines")
+HOLDS = ("worked", "trace_lines", "trace_text")
 # Fields and constructors with a dash inside a name.
 DASHED = """zeros-sized ones-sized region-sized known-sized from-sound used-up some-packet last-starts is-locked is-script
 ones-state other-state by-rules behind-first quit-line by-calls by-restart same-region same-mode never-before never-after""".split()

@@ -13,7 +13,7 @@ fn cut_in(packet: &[u8], place: usize, region: &[u8], trial: &mut [u8])
     requires { length trial.old ≡ length region.now }
     ensures { trial.new ≡ left_of packet.now place region.now }
 {
-    bytes::copy(region, trial);
+    trial.copy_from_slice(region);
     power_cut::leave(packet, place, trial);
 }
 

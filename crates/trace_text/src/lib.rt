@@ -19,7 +19,7 @@ use refusal::Refusal;
 use trace_lines::{Ending, packet_line};
 
 // What is shown of a script's packets.
-#[derive(Drop)]
+#[derive(Clone, Copy)]
 pub enum Kind {
     Trace,
     Cuts,

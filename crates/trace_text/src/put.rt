@@ -1,7 +1,7 @@
 // Lines put behind what a buffer has.
 ghost use Rattle.std.specs.Prelude.{List, ℕ, ◌+◌, ◌<◌, ◌≤◌, length};
 ghost use Rattle.little_endian.specs.Bytes.{PutBehind};
-ghost use Rattle.trace_lines.specs.Lines.{end_line, holds};
+ghost use Rattle.trace_lines.specs.Lines.{end_line, Holds};
 
 use trace_lines::{Ending, Line, end_line};
 
@@ -9,7 +9,7 @@ use trace_lines::{Ending, Line, end_line};
 // the buffer has then.
 pub fn append(line: Line, n: usize, out: &mut [u8]) -> usize
     requires { (line.length ≤ 32) × (n + line.length ≤ length out.old) }
-    ensures { (text : List ℕ) → holds line text → length text ≤ 32 → PutBehind text n out.old result out.new }
+    ensures { (text : List ℕ) → Holds line text → length text ≤ 32 → PutBehind text n out.old result out.new }
 {
     let bytes = line.bytes;
     let length = line.length;
