@@ -44,7 +44,8 @@ device-again d (fpga, hbm, errors) = λ i. record {
 
 -- the values are read back
 pub values-again : (r : SensorRecord) → Held r → values_in (value_bytes r) ≡ r
-unfolding values_in status_in security_in sensors_in device_in module_in input_of errors_of number_at value_bytes status_values security_values sensor_bytes input_bytes device_values error_bytes module_values
+unfolding values_in status_in security_in sensors_in device_in module_in input_of errors_of number_at
+    value_bytes status_values security_values sensor_bytes input_bytes device_values error_bytes module_values
 values-again r ((inlet, outlet, low, main, aux, power), one, two, lower, upper) = λ i. record {
   status = r.status;
   security = r.security;
@@ -69,7 +70,8 @@ module _ (b : List ℕ) (bytes : Bytes b) where
   sensor-bytes : sensor_bytes (sensors_in b) ≡ stretch 16 17 b
   unfolding sensor_bytes sensors_in
   sensor-bytes = λ i.
-      (degrees 17 i ∷ degrees 18 i ∷ []) ++ written.input-again b bytes 19 i ++ written.input-again b bytes 23 i ++ written.input-again b bytes 27 i ++ bytes-again b bytes 2 31 i
+      (degrees 17 i ∷ degrees 18 i ∷ []) ++ written.input-again b bytes 19 i ++ written.input-again b bytes 23 i
+      ++ written.input-again b bytes 27 i ++ bytes-again b bytes 2 31 i
 
   -- the bytes are written again
   pub values-written : length b ≡ 87 → value_bytes (values_in b) ≡ b
