@@ -14,7 +14,8 @@ use Rattle.test_laws.proofs.Tests.{on-cond}
 use Rattle.application.specs.Request.{request_of, reads_record}
 use Rattle.application.specs.Response.{Answer, refused, replied, locks, reply_of, answer_of}
 use Rattle.application.specs.declared.Request.{Request}
-use Rattle.application.specs.declared.Request.TheVariants.{BoardTemperature, Power, FirmwareVersion, FpgaTemperature, Reset, Sensors, Status, EnterLoader, OtherCard, Unknown}
+use Rattle.application.specs.declared.Request.TheVariants.{BoardTemperature, Power, FirmwareVersion, FpgaTemperature, Reset, Sensors}
+use Rattle.application.specs.declared.Request.TheVariants.{Status, EnterLoader, OtherCard, Unknown}
 use Rattle.application.specs.declared.Version.{Version}
 
 long-unknown : (message : List ℕ) → 3 ≤ length message → request_of message ≡ Unknown

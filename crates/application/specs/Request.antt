@@ -2,7 +2,8 @@
 -- Assumes nothing.
 use Rattle.std.specs.Prelude.{Bool, true, false, cond, not, List, ℕ, eqb, length, get_or}
 use Rattle.application.specs.declared.Request.{Request}
-use Rattle.application.specs.declared.Request.TheVariants.{BoardTemperature, Power, FirmwareVersion, FpgaTemperature, Reset, Sensors, Status, EnterLoader, OtherCard, Unknown}
+use Rattle.application.specs.declared.Request.TheVariants.{BoardTemperature, Power, FirmwareVersion, FpgaTemperature, Reset, Sensors}
+use Rattle.application.specs.declared.Request.TheVariants.{Status, EnterLoader, OtherCard, Unknown}
 
 -- the request of a bare code
 unfoldable pub bare_of : ℕ → Request

@@ -9,7 +9,8 @@ use Rattle.sensor_values.specs.declared.SensorRecord.{SensorRecord}
 use Rattle.temperature.specs.Temperature.{byte_of, greater_of}
 use Rattle.application.specs.Request.{request_of, reads_record}
 use Rattle.application.specs.declared.Request.{Request}
-use Rattle.application.specs.declared.Request.TheVariants.{BoardTemperature, Power, FirmwareVersion, FpgaTemperature, Reset, Sensors, Status, EnterLoader, OtherCard, Unknown}
+use Rattle.application.specs.declared.Request.TheVariants.{BoardTemperature, Power, FirmwareVersion, FpgaTemperature, Reset, Sensors}
+use Rattle.application.specs.declared.Request.TheVariants.{Status, EnterLoader, OtherCard, Unknown}
 use Rattle.application.specs.declared.Response.{Response}
 use Rattle.application.specs.declared.Response.TheVariants.{Refused, Replied, Locks}
 use Rattle.application.specs.declared.Version.{Version}

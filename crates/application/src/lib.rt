@@ -12,7 +12,7 @@ use sensor_values::SensorRecord;
 use temperature::greater_byte;
 
 // The version xx.yy.zz of the firmware.
-#[derive(Drop)]
+#[derive(Clone, Copy)]
 pub struct Version {
     pub xx: u8,
     pub yy: u8,
@@ -20,7 +20,7 @@ pub struct Version {
 }
 
 // What a message asks for, by source documents 001 and 004.
-#[derive(Drop)]
+#[derive(Clone, Copy)]
 pub enum Request {
     // 0x02: the maximum board temperature.
     BoardTemperature,
@@ -55,6 +55,7 @@ pub enum Response {
 }
 
 // The request of a message of one byte.
+#[tactic(auto, unfolding(crate::specs::Request::bare_of))]
 fn bare(code: u8) -> Request
     ensures { result ≡ bare_of code }
 {
