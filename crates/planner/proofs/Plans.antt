@@ -51,7 +51,8 @@ not-planned : {A : Type 0} (number place count : ℕ) → refused number place �
 not-planned number place count e = let z : ◌≡◌ {A = ℕ} 0 1 = cc in absurd (omega arith)
 
 -- bytes that were stored first
-stored-first : (new old : List ℕ) → length new ≤ length old → (take (length new) (stored_at 0 new old) ≡ new) × (drop (length new) (stored_at 0 new old) ≡ drop (length new) old)
+stored-first : (new old : List ℕ) → length new ≤ length old
+    → (take (length new) (stored_at 0 new old) ≡ new) × (drop (length new) (stored_at 0 new old) ≡ drop (length new) old)
 stored-first new old fits =
     let between = stored-between 0 new old (omega arith) in
     let rest = drop (0 + length new) old in
@@ -74,7 +75,8 @@ plans-right text password entry n output count =
     P : Left → Type 0
     P l = l.answer ≡ planned count → Wrote text password entry n output count l.output
 
-    judged : good_size n ≡ true → length password ≡ 256 → entry < n → (j : Judgement) → rules_of text n ≡ j → P (if_sound j output (put_over script output))
+    judged : good_size n ≡ true → length password ≡ 256 → entry < n → (j : Judgement) → rules_of text n ≡ j
+        → P (if_sound j output (put_over script output))
     judged good wide inside (rules.refused number place) e = not-planned number place count
     judged good wide inside rules.sound e =
         on-cond P (ltb (length output) (length script)) _ _ (λ _. not-planned 13 0 count) (λ long is.

@@ -31,11 +31,14 @@ module _ (least : ℕ) (core : List ℕ) where
 
   pub packet-short : length (packet_from least core) ≤ length core + 5
   unfolding packet_from
-  packet-short = on-cond (λ l. length l ≤ length core + 5) (leb least (length core)) (packet_of core) [] (λ _. omega (arith, packet-length core)) (λ _. omega arith)
+  packet-short =
+      on-cond (λ l. length l ≤ length core + 5) (leb least (length core)) (packet_of core) [] (λ _. omega (arith, packet-length core))
+      (λ _. omega arith)
 
 -- a packet written over a part of a buffer that is as long as it
 pub packet-part : (n : ℕ) (core out : List ℕ) → 1 ≤ length core → length core ≤ longest_core → n + length core + 5 ≤ length out
-    → take n out ++ ((write_of core (take (n + length core + 5 - n) (drop n out))).buffer ++ drop (n + length core + 5 - n) (drop n out)) ≡ stored_at n (packet_of core) out
+    → take n out ++ ((write_of core (take (n + length core + 5 - n) (drop n out))).buffer ++ drop (n + length core + 5 - n) (drop n out))
+    ≡ stored_at n (packet_of core) out
 packet-part n core out some small room =
     let long = packet-length core in
     let part : n + length core + 5 - n ≡ length (packet_of core) = omega (arith, long) in
@@ -69,23 +72,34 @@ unlock-core password wide =
     ∙ ap (0x21 ∷◌) (append-nil password)
 
 -- the beginning of a script: head, password, erase
-pub front-parts : (password unlock : List ℕ) → unlock ≡ 0x21 ∷ password → (head ++ packet_from 1 unlock) ++ packet_from 1 (0x15 ∷ []) ≡ front password
+pub front-parts : (password unlock : List ℕ) → unlock ≡ 0x21 ∷ password
+    → (head ++ packet_from 1 unlock) ++ packet_from 1 (0x15 ∷ []) ≡ front password
 front-parts password unlock e =
-    rw (e, packet-some 1 (0x21 ∷ password) (omega arith), packet-some 1 (0x15 ∷ []) (omega arith), append-nil (packet_of (0x15 ∷ []))) (append_assoc head (packet_of (0x21 ∷ password)) (packet_of (0x15 ∷ [])))
+    rw (e, packet-some 1 (0x21 ∷ password) (omega arith), packet-some 1 (0x15 ∷ []) (omega arith), append-nil (packet_of (0x15 ∷ [])))
+    (append_assoc head (packet_of (0x21 ∷ password)) (packet_of (0x15 ∷ [])))
 
 -- how long it is
 pub front_length : (password : List ℕ) → length password ≡ 256 → length (front password) ≡ 273
 front_length password wide =
     let unlock = packet_of (0x21 ∷ password) in
     let erase = packet_of (0x15 ∷ []) in
-    omega (arith, length-append head (unlock ++ (erase ++ [])), length-append unlock (erase ++ []), length-append erase [], packet-length (0x21 ∷ password), packet-length (0x15 ∷ []))
+    omega (
+      arith,
+      length-append head (unlock ++ (erase ++ [])),
+      length-append unlock (erase ++ []),
+      length-append erase [],
+      packet-length (0x21 ∷ password),
+      packet-length (0x15 ∷ []),
+    )
 
 -- the page's own script with no range checksum: the beginning, the writes, the start
 pub page-parts : (image : Image) (password : List ℕ) (entry : ℕ)
-    → (front password ++ packets_of (writes_of (segments_of image))) ++ packet_of (addressed 0x27 entry) ≡ page_script image password entry []
+    → (front password ++ packets_of (writes_of (segments_of image))) ++ packet_of (addressed 0x27 entry)
+    ≡ page_script image password entry []
 unfolding page_script
 page-parts image password entry =
     let writes = writes_of (segments_of image) in
     let last = addressed 0x27 entry ∷ [] in
-    let end : packets_of (writes ++ last) ≡ packets_of writes ++ packet_of (addressed 0x27 entry) = packets-append writes last ∙ ap (packets_of writes ++◌) (append-nil (packet_of (addressed 0x27 entry))) in
+    let end : packets_of (writes ++ last) ≡ packets_of writes ++ packet_of (addressed 0x27 entry) =
+    packets-append writes last ∙ ap (packets_of writes ++◌) (append-nil (packet_of (addressed 0x27 entry))) in
     rw end (simp append_assoc)

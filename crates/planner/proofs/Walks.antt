@@ -30,10 +30,12 @@ closed start (b ∷ bytes) few =
     ∙ sym (packet-some 6 (write_core start (b ∷ bytes)) (omega arith))
 
 -- cores put before others
-regroup : (done : List ℕ) (x y : List (List ℕ)) (first : List ℕ) → packets_of x ≡ first → done ++ packets_of (x ++ y) ≡ (done ++ first) ++ packets_of y
+regroup : (done : List ℕ) (x y : List (List ℕ)) (first : List ℕ) → packets_of x ≡ first
+    → done ++ packets_of (x ++ y) ≡ (done ++ first) ++ packets_of y
 regroup done x y first e = ap (done ++◌) (packets-append x y ∙ ap (◌++ packets_of y) e) ∙ sym (append_assoc done first (packets_of y))
 
--- a walk with the image i left: packets that are put, and a block that is begun, from whose start on what is left gives the rest of the whole
+-- a walk with the image i left: packets that are put, and a block that is begun, from whose start on what is left gives the rest of the
+-- whole
 pub record Reaches (whole : List ℕ) (n : ℕ) (old : List ℕ) (i : Image) (core : List ℕ) (held : ℕ) (out : List ℕ) : Type 0 where
   pub done : List ℕ
   pub start : ℕ
@@ -66,7 +68,8 @@ reach-start text n old core e =
 
 -- what `put` asks for: what is put so far is part of the whole, which is short
 module _ (text : List ℕ) (n : ℕ) (old : List ℕ) (i : Image) (core : List ℕ) (filled held : ℕ) (out : List ℕ) where
-  pub reach-allows : Reaches (packets_of (writes_of (segments_of (image_of text)))) n old i (take filled core) held out → length core ≡ 261 → filled ≤ 261
+  pub reach-allows : Reaches (packets_of (writes_of (segments_of (image_of text)))) n old i (take filled core) held out → length core ≡ 261
+      → filled ≤ 261
       → length text ≤ 1048576 → n < 1000 → (length (take filled core) ≤ 261) × (held < 4294967296)
   reach-allows r sized few short first = (
     omega (arith, length-take-le filled core (omega arith)),
@@ -74,7 +77,8 @@ module _ (text : List ℕ) (n : ℕ) (old : List ℕ) (i : Image) (core : List �
   )
 
 -- a core with one byte more, in an array that was begun anew or not
-pub filled_more : (old new first : List ℕ) (filled r v : ℕ) → filled ≤ length old → r < length new → take r new ≡ cond (leb 261 filled) first (take filled old)
+pub filled_more : (old new first : List ℕ) (filled r v : ℕ) → filled ≤ length old → r < length new
+    → take r new ≡ cond (leb 261 filled) first (take filled old)
     → take (r + 1) (set new r v) ≡ cond (leb 261 (length (take filled old))) first (take filled old) ++ (v ∷ [])
 filled_more old new first filled r v fits inside e =
     rw (length-take-le filled old fits, add-one r) (take-suc-set new r v inside ∙ ap (◌++ (v ∷ [])) e)
@@ -119,11 +123,14 @@ module _ (whole : List ℕ) (n : ℕ) (old : List ℕ) (core : List ℕ) (held :
         put-more : PutIfRoom (r.done ++ packet_from 261 core) n old next new
         put-more = room-then r.done (packet_from 261 core) n old held out next new r.sized r.put q
 
-        go : (t : Bool) → leb 261 (length core) ≡ t → begun ≡ cond t (addressed 0x20 a) core ++ (v ∷ []) → Reaches whole n old k begun next new
+        go : (t : Bool) → leb 261 (length core) ≡ t → begun ≡ cond t (addressed 0x20 a) core ++ (v ∷ [])
+            → Reaches whole n old k begun next new
         go true h is =
             let full : length r.bytes ≡ 256 = omega (arith, leb-true 261 (length core) h, long, r.few) in
             let more = v ∷ bytes_ahead k in
-            let first = append-nil (packet_of (write_core r.start r.bytes)) ∙ ap packet_of (sym r.begun) ∙ sym (packet-some 261 core (leb-true 261 (length core) h)) in
+            let first =
+            append-nil (packet_of (write_core r.start r.bytes)) ∙ ap packet_of (sym r.begun)
+            ∙ sym (packet-some 261 core (leb-true 261 (length core) h)) in
             let here : r.start + 256 ≡ a = omega (arith, full, r.rising.0) in
             record {
               done = r.done ++ packet_from 261 core;
@@ -138,7 +145,8 @@ module _ (whole : List ℕ) (n : ℕ) (old : List ℕ) (core : List ℕ) (held :
               left =
                   r.left
                   ∙ ap (λ (cores : List (List ℕ)). r.done ++ packets_of (cores ++ writes)) (blocks-full r.start r.bytes more full)
-                  ∙ regroup r.done (write_core r.start r.bytes ∷ []) (blocks_from (r.start + 256) more ++ writes) (packet_from 261 core) first
+                  ∙ regroup r.done (write_core r.start r.bytes ∷ []) (blocks_from (r.start + 256) more ++ writes)
+                  (packet_from 261 core) first
                   ∙ ap (λ (x : ℕ). (r.done ++ packet_from 261 core) ++ packets_of (blocks_from x more ++ writes)) here;
             }
         go false h is =
@@ -157,8 +165,10 @@ module _ (whole : List ℕ) (n : ℕ) (old : List ℕ) (core : List ℕ) (held :
               order = r.order;
               left =
                   r.left
-                  ∙ ap (λ (bytes : List ℕ). r.done ++ packets_of (blocks_from r.start bytes ++ writes)) (sym (append_assoc r.bytes (v ∷ []) (bytes_ahead k)))
-                  ∙ ap (◌++ packets_of (blocks_from r.start ((r.bytes ++ (v ∷ [])) ++ bytes_ahead k) ++ writes)) (sym (append-nil r.done) ∙ ap (r.done ++◌) (sym none));
+                  ∙ ap (λ (bytes : List ℕ). r.done ++ packets_of (blocks_from r.start bytes ++ writes))
+                  (sym (append_assoc r.bytes (v ∷ []) (bytes_ahead k)))
+                  ∙ ap (◌++ packets_of (blocks_from r.start ((r.bytes ++ (v ∷ [])) ++ bytes_ahead k) ++ writes))
+                  (sym (append-nil r.done) ∙ ap (r.done ++◌) (sym none));
             }
 
     -- nothing is left
@@ -167,5 +177,6 @@ module _ (whole : List ℕ) (n : ℕ) (old : List ℕ) (core : List ℕ) (held :
     reach-end i none last r p =
         let all : whole ≡ r.done ++ packet_from 6 core =
         r.left
-        ∙ rw (none, last, append-nil r.bytes, append-nil (blocks_from r.start r.bytes), r.begun) (ap (r.done ++◌) (closed r.start r.bytes r.few)) in
+        ∙ rw (none, last, append-nil r.bytes, append-nil (blocks_from r.start r.bytes), r.begun)
+        (ap (r.done ++◌) (closed r.start r.bytes r.few)) in
         rw all (room-then r.done (packet_from 6 core) n old held out next new r.sized r.put p)

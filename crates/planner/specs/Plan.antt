@@ -41,7 +41,8 @@ abbrev pub if_sound : Judgement → List ℕ → Left → Left
 if_sound rules.sound output next = next
 if_sound (rules.refused number place) output next = left (refused number place) output
 
--- the planner: refusals 1, 2, 14 and those of the text, which are 18, 3, 4 and 5; else the page's own script of the text's image with no range checksum
+-- the planner: refusals 1, 2, 14 and those of the text, which are 18, 3, 4 and 5; else the page's own script of the text's image with no
+-- range checksum
 unfoldable pub plan_of : List ℕ → List ℕ → ℕ → ℕ → List ℕ → Left
 plan_of text password entry n output =
     cond (not (good_size n)) (left (refused 1 0) output)

@@ -80,7 +80,8 @@ fn begin(address: u64, core: &mut [u8]) -> usize
 // Begins the core of a write anew at an address, if its block is full. The answer is how many bytes it has.
 fn begin_if_full(address: u64, filled: usize, core: &mut [u8]) -> usize
     requires { (5 ≤ filled) × (filled ≤ 261) × (5 ≤ length core.old) }
-    ensures { (take result core.new ≡ cond (leb 261 filled) (addressed 0x20 address) (take filled core.old)) × (5 ≤ result) × (result < 261) }
+    ensures { (take result core.new ≡ cond (leb 261 filled) (addressed 0x20 address) (take filled core.old))
+        × (5 ≤ result) × (result < 261) }
 {
     if filled < FULL {
         return filled;

@@ -1,4 +1,5 @@
--- Laws of scripts: how long a head is; the framing, one packet more or none, how many there are at most, and that it is the one way to cut bytes into packets and a rest.
+-- Laws of scripts: how long a head is; the framing, one packet more or none, how many there are at most, and that it is the one way to cut
+-- bytes into packets and a rest.
 -- Assumes nothing.
 use mathlib.Core.Path.{◌≡◌, refl, sym, ap, ◌∙◌}
 use mathlib.Core.Bool.{Bool, true, false, cond}
@@ -62,7 +63,8 @@ up-to-few zero bytes = omega arith
 up-to-few (suc n) bytes =
     let f = frame_length bytes in
     let left = drop f bytes in
-    on-cond (λ r. 5 * length r.packets ≤ length bytes) (ltb (length bytes) f) (no_packet bytes) (packet_before (take f bytes) (frames_up_to n left))
+    on-cond (λ r. 5 * length r.packets ≤ length bytes) (ltb (length bytes) f) (no_packet bytes)
+    (packet_before (take f bytes) (frames_up_to n left))
     (λ e. omega arith)
     (λ e. omega (arith, up-to-few n left, length-drop f bytes, ltb-false (length bytes) f e))
 
@@ -75,7 +77,8 @@ unfolding number_at
 prefix-length p q some = rw (get_or-append p q 0 1 (omega arith), get_or-append p q 0 2 (omega arith)) refl
 
 -- a packet that is cut off is as long as it says
-cut-length : (bytes : List ℕ) → frame_length bytes ≤ length bytes → length (take (frame_length bytes) bytes) ≡ frame_length (take (frame_length bytes) bytes)
+cut-length : (bytes : List ℕ) → frame_length bytes ≤ length bytes
+    → length (take (frame_length bytes) bytes) ≡ frame_length (take (frame_length bytes) bytes)
 cut-length bytes whole =
     let f = frame_length bytes in
     let long = length-take-le f bytes whole in

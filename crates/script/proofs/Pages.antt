@@ -29,7 +29,8 @@ abbrev pub blocks_from : ℕ → List ℕ → List (List ℕ)
 blocks_from a bytes = blocks (length bytes / 256) a bytes
 
 -- a full block before others
-pub blocks-full : (a : ℕ) (bytes more : List ℕ) → length bytes ≡ 256 → blocks_from a (bytes ++ more) ≡ write_core a bytes ∷ blocks_from (a + 256) more
+pub blocks-full : (a : ℕ) (bytes more : List ℕ) → length bytes ≡ 256
+    → blocks_from a (bytes ++ more) ≡ write_core a bytes ∷ blocks_from (a + 256) more
 unfolding blocks
 blocks-full a bytes more full =
     let count : length (bytes ++ more) / 256 ≡ suc (length more / 256) = rw (length-append bytes more, full) (omega arith) in
@@ -74,7 +75,8 @@ short-blocks (suc n) a bytes e = (
 
 short-writes : (segments : List Segment) → Short (writes_of segments)
 short-writes [] = tt
-short-writes (s ∷ segments) = short-append (blocks_from s.start s.bytes) (writes_of segments) (short-blocks _ s.start s.bytes refl) (short-writes segments)
+short-writes (s ∷ segments) =
+    short-append (blocks_from s.start s.bytes) (writes_of segments) (short-blocks _ s.start s.bytes refl) (short-writes segments)
 
 short-ranges : (ranges : List Range) → Short (map range_core ranges)
 short-ranges [] = tt
@@ -91,15 +93,18 @@ module _ (image : Image) (password : List ℕ) (entry : ℕ) (ranges : List Rang
 
   -- it is a script: the framing uses up its bytes, and finds the packets of its cores
   pub page-framed : length password ≡ 256
-      → frames_of (drop 5 (page_script image password entry ranges)) ≡ record { packets = map packet_of (cores_of image password entry ranges); rest = [] }
+      → frames_of (drop 5 (page_script image password entry ranges))
+      ≡ record { packets = map packet_of (cores_of image password entry ranges); rest = [] }
   unfolding page_script
   page-framed wide =
       let cores = cores_of image password entry ranges in
       let writes = writes_of (segments_of image) in
       let last = addressed 0x27 entry ∷ [] in
-      let behind : Short (map range_core ranges ++ last) = short-append (map range_core ranges) last (short-ranges ranges) (omega arith, tt) in
+      let behind : Short (map range_core ranges ++ last) =
+      short-append (map range_core ranges) last (short-ranges ranges) (omega arith, tt) in
       let short : Short cores = (omega arith, (omega arith, short-append writes _ (short-writes (segments_of image)) behind)) in
-      cut-unique (packets_of cores) _ (record { joins = append-nil (packets_of cores); framed = packets-framed cores short; ends = omega arith })
+      cut-unique (packets_of cores) _
+      (record { joins = append-nil (packets_of cores); framed = packets-framed cores short; ends = omega arith })
 
 -- ---- how long the writes of a text are
 
@@ -107,7 +112,8 @@ module _ (image : Image) (password : List ℕ) (entry : ℕ) (ranges : List Rang
 blocks-short : (n a : ℕ) (bytes : List ℕ) → n ≡ length bytes / 256 → 2 * length (packets_of (blocks n a bytes)) ≤ 11 + 11 * length bytes
 unfolding blocks
 blocks-short zero a [] e = omega arith
-blocks-short zero a (b ∷ bytes) e = omega (arith, length-append (packet_of (write_core a (b ∷ bytes))) [], packet-length (write_core a (b ∷ bytes)))
+blocks-short zero a (b ∷ bytes) e =
+    omega (arith, length-append (packet_of (write_core a (b ∷ bytes))) [], packet-length (write_core a (b ∷ bytes)))
 blocks-short (suc n) a bytes e =
     let first = write_core a (take 256 bytes) in
     let more = drop 256 bytes in

@@ -55,7 +55,8 @@ abbrev pub Framed : List (List ℕ) → Type 0
 Framed [] = Unit
 Framed (packet ∷ packets) = (length packet ≡ frame_length packet) × Framed packets
 
--- what a framing of bytes is: packets, joined, and a rest that ends inside a packet are the bytes (`frames-cut`, and `cut-unique`: there is no other)
+-- what a framing of bytes is: packets, joined, and a rest that ends inside a packet are the bytes (`frames-cut`, and `cut-unique`: there is
+-- no other)
 pub record Cut (bytes : List ℕ) (f : Frames) : Type 0 where
   pub joins : joined f.packets ++ f.rest ≡ bytes
   pub framed : Framed f.packets

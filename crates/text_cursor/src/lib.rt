@@ -222,7 +222,8 @@ fn another(text: &[u8], at: usize, pairs: u64, address: u64) -> Token
 
 // The line behind this one's end.
 fn line_ahead(text: &[u8], at: usize) -> Ahead
-    ensures { ((k a : ℕ) → k < 17 → ahead_image text.now k a result ≡ end_from (within a) at (drop at text.now)) × Reached text.now at result }
+    ensures { ((k a : ℕ) → k < 17 → ahead_image text.now k a result ≡ end_from (within a) at (drop at text.now))
+        × Reached text.now at result }
 {
     match line_end(text, at) {
         LineEnd::Past(next) => Ahead::Line(next),

@@ -41,11 +41,13 @@ length-placed (broken p) l = refl
 -- ---- a byte stays where its address is not given again
 
 -- an address that is not given again was not seen
-pub once_more : (seen : List ℕ) (p a v : ℕ) (i : Image) → repeated_of seen (byte p a v i) ≡ none → (among a seen ≡ false) × (repeated_of (a ∷ seen) i ≡ none)
+pub once_more : (seen : List ℕ) (p a v : ℕ) (i : Image) → repeated_of seen (byte p a v i) ≡ none
+    → (among a seen ≡ false) × (repeated_of (a ∷ seen) i ≡ none)
 unfolding repeated_of
 once_more seen p a v i e = go (among a seen) refl e
   where
-    go : (t : Bool) → among a seen ≡ t → cond t (at p) (repeated_of (a ∷ seen) i) ≡ none → (among a seen ≡ false) × (repeated_of (a ∷ seen) i ≡ none)
+    go : (t : Bool) → among a seen ≡ t → cond t (at p) (repeated_of (a ∷ seen) i) ≡ none
+        → (among a seen ≡ false) × (repeated_of (a ∷ seen) i ≡ none)
     go true h x = not_none p (at p) refl x
     go false h x = (h, x)
 
@@ -63,7 +65,8 @@ just-seen a seen = ap (λ (t : Bool). t || among a seen) (eq-eqb a a refl)
 seen-not : (a b : ℕ) (seen : List ℕ) → among a seen ≡ true → among b seen ≡ false → a ≡ b → ⊥
 seen-not a b seen e f i = false≢true (sym f ∙ ap (λ (x : ℕ). among x seen) (sym i) ∙ e)
 
-pub placed-kept : (i : Image) (l seen : List ℕ) (a : ℕ) → repeated_of seen i ≡ none → among a seen ≡ true → get_or (placed i l) a 0 ≡ get_or l a 0
+pub placed-kept : (i : Image) (l seen : List ℕ) (a : ℕ) → repeated_of seen i ≡ none → among a seen ≡ true
+    → get_or (placed i l) a 0 ≡ get_or l a 0
 unfolding placed repeated_of
 placed-kept (segment b i) l seen a e g = placed-kept i l seen a e g
 placed-kept (byte p b w i) l seen a e g =

@@ -18,7 +18,8 @@ passed number none next e = (refl, e)
 passed number (at p) next e = absurd (false≢true e)
 
 -- no fault of any kind
-pub sound-parts : (n : ℕ) (i : Image) → is_sound (image_rules n i) ≡ true → (fault_of i ≡ none) × (outside_of n i ≡ none) × (repeated_of [] i ≡ none)
+pub sound-parts : (n : ℕ) (i : Image) → is_sound (image_rules n i) ≡ true
+    → (fault_of i ≡ none) × (outside_of n i ≡ none) × (repeated_of [] i ≡ none)
 unfolding image_rules
 sound-parts n i e =
     let third = passed 3 (fault_of i) _ e in
@@ -26,7 +27,8 @@ sound-parts n i e =
     let fifth = passed 5 (repeated_of [] i) sound fourth.1 in
     (third.0, fourth.0, fifth.0)
 
-pub parts-sound : (n : ℕ) (i : Image) → none ≡ fault_of i → none ≡ outside_of n i → none ≡ repeated_of [] i → is_sound (image_rules n i) ≡ true
+pub parts-sound : (n : ℕ) (i : Image) → none ≡ fault_of i → none ≡ outside_of n i → none ≡ repeated_of [] i
+    → is_sound (image_rules n i) ≡ true
 unfolding image_rules
 parts-sound n i f o r = rw (← f, ← o, ← r)
 
@@ -36,7 +38,8 @@ module _ (text : List ℕ) (n : ℕ) (e : rules_of text n ≡ sound) where
   unfolding rules_of
   both-rules = go (good_size n) (ltb longest (length text)) refl (ap is_sound e)
     where
-      go : (good long : Bool) → ltb longest (length text) ≡ long → is_sound (cond good (cond long (refused 18 0) (image_rules n (image_of text))) (refused 1 0)) ≡ true
+      go : (good long : Bool) → ltb longest (length text) ≡ long
+          → is_sound (cond good (cond long (refused 18 0) (image_rules n (image_of text))) (refused 1 0)) ≡ true
           → (length text ≤ longest) × (is_sound (image_rules n (image_of text)) ≡ true)
       go true true h x = absurd (false≢true x)
       go true false h x = (ltb-false longest (length text) h, x)

@@ -19,13 +19,15 @@ use Rattle.text_image.specs.declared.Verdict.{Verdict}
 use Rattle.text_image.specs.Rules.{outside_of, among, repeated_of, refused, judged, image_rules}
 use Rattle.text_image.specs.Picture.{placed}
 use Rattle.text_image.specs.Walk.{noted, said, Walked}
-use Rattle.text_image.proofs.Parts.{segment-outside, segment-repeated, byte-outside, byte_inside, byte-repeated, byte-new, end-outside, end-repeated}
+use Rattle.text_image.proofs.Parts.{segment-outside, segment-repeated, byte-outside, byte_inside, byte-repeated, byte-new, end-outside}
+use Rattle.text_image.proofs.Parts.{end-repeated}
 use Rattle.text_image.proofs.Pictures.{segment-placed, end-placed, broken-placed}
 
 -- what is found in the image i, with j left to walk; the map holds the addresses seen until a rule is broken
 abbrev pub Noted : Found → ℕ → List ℕ → Image → Image → Type 0
 Noted Nothing n map i j =
-    (outside_of n j ≡ outside_of n i) × ((seen : List ℕ) × (repeated_of seen j ≡ repeated_of [] i) × ((a : ℕ) → marked map a ≡ among a seen))
+    (outside_of n j ≡ outside_of n i)
+    × ((seen : List ℕ) × (repeated_of seen j ≡ repeated_of [] i) × ((a : ℕ) → marked map a ≡ among a seen))
 Noted (Repeated p) n map i j = (outside_of n j ≡ outside_of n i) × (at p ≡ repeated_of [] i)
 Noted (Outside p) n map i j = at p ≡ outside_of n i
 
@@ -45,7 +47,8 @@ module _ (n : ℕ) (i : Image) (old : List ℕ) where
     noted-segment e (Repeated p) w = (segment-outside e n ∙ w.0, w.1)
     noted-segment e (Outside p) w = w
 
-    pub walk-segment : {a : ℕ} {k : Image} (region : List ℕ) → segment a k ≡ j → (t : Task) (f : Found) → Walking t f n map i j old region → Walking t f n map i k old region
+    pub walk-segment : {a : ℕ} {k : Image} (region : List ℕ) → segment a k ≡ j → (t : Task) (f : Found) → Walking t f n map i j old region
+        → Walking t f n map i k old region
     walk-segment region e Judge f w = (noted-segment e f w.0, w.1)
     walk-segment region e Place f w = segment-placed e region ∙ w
 
@@ -64,7 +67,11 @@ module _ (n : ℕ) (i : Image) (old : List ℕ) where
             let inside : a < n = ltb-true a n h in
             let fits : a / 8 < length map = omega arith in (
               byte_inside e n inside ∙ w.0,
-              (a ∷ seen, byte-new e seen (sym (w.1.2 a) ∙ g) ∙ w.1.1, λ b. marked_more map new a fits m b ∙ ap (λ (x : Bool). eqb b a || x) (w.1.2 b)),
+              (
+                a ∷ seen,
+                byte-new e seen (sym (w.1.2 a) ∙ g) ∙ w.1.1,
+                λ b. marked_more map new a fits m b ∙ ap (λ (x : Bool). eqb b a || x) (w.1.2 b),
+              ),
             )
         go false h t g = byte-outside e n (ltb-false a n h) ∙ w.0
     noted-byte p a v k new e small sized m (Repeated q) w = go (ltb a n) refl
@@ -81,7 +88,8 @@ module _ (n : ℕ) (i : Image) (old : List ℕ) where
     noted-end e g (Repeated p) w = rw (← (ap fault_of e ∙ g), ← (end-outside e n ∙ w.0), ← w.1) refl
     noted-end e g (Outside p) w = rw (← (ap fault_of e ∙ g), ← w) refl
 
-    pub walk_end : (t : Task) (f : Found) (r : Verdict) (region : List ℕ) → end ≡ j → fault_of j ≡ fault_of i → Walking t f n map i j old region → judged r ≡ said f → Walked t n i r old region
+    pub walk_end : (t : Task) (f : Found) (r : Verdict) (region : List ℕ) → end ≡ j → fault_of j ≡ fault_of i
+        → Walking t f n map i j old region → judged r ≡ said f → Walked t n i r old region
     walk_end Judge f r region e g w s = (s ∙ noted-end e g f w.0, w.1)
     walk_end Place f r region e g w s = end-placed e region ∙ w
 
@@ -90,6 +98,7 @@ module _ (n : ℕ) (i : Image) (old : List ℕ) where
     unfolding image_rules
     noted-refused p e g = rw (← (ap fault_of e ∙ g)) refl
 
-    pub walk_refused : (t : Task) (f : Found) (r : Verdict) (region : List ℕ) (p : ℕ) → broken p ≡ j → fault_of j ≡ fault_of i → Walking t f n map i j old region → judged r ≡ refused 3 p → Walked t n i r old region
+    pub walk_refused : (t : Task) (f : Found) (r : Verdict) (region : List ℕ) (p : ℕ) → broken p ≡ j → fault_of j ≡ fault_of i
+        → Walking t f n map i j old region → judged r ≡ refused 3 p → Walked t n i r old region
     walk_refused Judge f r region p e g w s = (s ∙ noted-refused p e g, w.1)
     walk_refused Place f r region p e g w s = broken-placed e region ∙ w

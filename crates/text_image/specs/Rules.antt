@@ -46,7 +46,8 @@ unless number (at place) next = refused number place
 abbrev pub longest : ℕ
 longest = 1048576
 
--- the rules of an image's text, each over the whole text before the next: 3, 4, 5 (`Meaning` of `firmware_text` says what `fault_of` and `image_of` have to do with the grammar)
+-- the rules of an image's text, each over the whole text before the next: 3, 4, 5 (`Meaning` of `firmware_text` says what `fault_of` and
+-- `image_of` have to do with the grammar)
 unfoldable pub image_rules : ℕ → Image → Judgement
 image_rules n i = unless 3 (fault_of i) (unless 4 (outside_of n i) (unless 5 (repeated_of [] i) sound))
 

@@ -68,7 +68,8 @@ module _ (buffer map : List ℕ) (i j : Image) (h : Agreed buffer map i j) where
         ∙ placed-kept k (set h.l a v) (a ∷ h.seen) a o.1 (just-seen a h.seen)
         ∙ get_or-set_same h.l a v 0 (omega (arith, h.sized))
 
-    pub agreed-byte : (new : List ℕ) → among a h.seen ≡ false → ((b : ℕ) → marked new b ≡ (eqb b a || marked map b)) → get_or buffer a 0 ≡ v → Agreed buffer new i k
+    pub agreed-byte : (new : List ℕ) → among a h.seen ≡ false → ((b : ℕ) → marked new b ≡ (eqb b a || marked map b)) → get_or buffer a 0 ≡ v
+        → Agreed buffer new i k
     agreed-byte new first m b =
         record {
           seen = a ∷ h.seen;
@@ -84,7 +85,8 @@ module _ (buffer map : List ℕ) (i j : Image) (h : Agreed buffer map i j) where
         was : (x : ℕ) (t : Bool) → eqb x a ≡ t → (t || among x h.seen) ≡ true → get_or (set h.l a v) x 0 ≡ get_or buffer x 0
         was x true q y =
             let s : x ≡ a = eqb-true x a q in
-            ap (λ (n : ℕ). get_or (set h.l a v) n 0) s ∙ get_or-set_same h.l a v 0 (omega (arith, h.sized)) ∙ sym b ∙ ap (λ (n : ℕ). get_or buffer n 0) (sym s)
+            ap (λ (n : ℕ). get_or (set h.l a v) n 0) s ∙ get_or-set_same h.l a v 0 (omega (arith, h.sized)) ∙ sym b
+            ∙ ap (λ (n : ℕ). get_or buffer n 0) (sym s)
         was x false q y = get_or-set_other h.l a x v 0 (eqb-false x a q) ∙ h.agrees x y
 
         not : (x : ℕ) (t : Bool) → eqb x a ≡ t → (t || among x h.seen) ≡ false → x < length buffer → get_or (set h.l a v) x 0 ≡ 0xFF
@@ -93,7 +95,8 @@ module _ (buffer map : List ℕ) (i j : Image) (h : Agreed buffer map i j) where
 
   -- at the end of the text
   pub agreed-end : end ≡ j → (t : Bool) → BlankElsewhere buffer map t → t ≡ same buffer (picture_of (length buffer) i)
-  agreed-end e true b = sym (same_true buffer (picture_of (length buffer) i) (ext_get_or 0 buffer h.l (sym h.sized) each ∙ end-placed e h.l ∙ h.goal))
+  agreed-end e true b =
+      sym (same_true buffer (picture_of (length buffer) i) (ext_get_or 0 buffer h.l (sym h.sized) each ∙ end-placed e h.l ∙ h.goal))
     where
       each : (x : ℕ) → x < length buffer → get_or buffer x 0 ≡ get_or h.l x 0
       each x k = go (among x h.seen) refl
@@ -103,10 +106,12 @@ module _ (buffer map : List ℕ) (i j : Image) (h : Agreed buffer map i j) where
           go false y = b x k (h.map_is x ∙ y) ∙ sym (h.blank x y k)
   agreed-end e false b =
       sym (same_false buffer (picture_of (length buffer) i)
-      (λ (s : buffer ≡ picture_of (length buffer) i). b.3 (ap (λ (x : List ℕ). get_or x b.0 0) (s ∙ sym (end-placed e h.l ∙ h.goal)) ∙ h.blank b.0 (sym (h.map_is b.0) ∙ b.2) b.1)))
+      (λ (s : buffer ≡ picture_of (length buffer) i). b.3
+      (ap (λ (x : List ℕ). get_or x b.0 0) (s ∙ sym (end-placed e h.l ∙ h.goal)) ∙ h.blank b.0 (sym (h.map_is b.0) ∙ b.2) b.1)))
 
 -- a buffer that cannot be the picture of a sound text
-pub cannot-be : (buffer : List ℕ) (i : Image) → (is_sound (image_rules (length buffer) i) ≡ true → buffer ≡ picture_of (length buffer) i → ⊥)
+pub cannot-be : (buffer : List ℕ) (i : Image)
+    → (is_sound (image_rules (length buffer) i) ≡ true → buffer ≡ picture_of (length buffer) i → ⊥)
     → false ≡ (is_sound (image_rules (length buffer) i) && same buffer (picture_of (length buffer) i))
 cannot-be buffer i f = go (is_sound (image_rules (length buffer) i)) refl
   where

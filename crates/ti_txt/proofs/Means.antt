@@ -71,7 +71,8 @@ module _ (text : List ℕ) (n : ℕ) (old : List ℕ) where
       shows : (w : WellFormed text) → image_rules n (image_of text) ≡ sound → Shows n (denoted w) o.region
       shows w f =
           let once = (sound-parts n (image_of text) (ap is_sound f)).2 in
-          subst (λ (r : List ℕ). Shows n (denoted w) r) (ap (λ (j : Judgement). (filled j (picture_of n (image_of text)) old).region) (sym f))
+          subst (λ (r : List ℕ). Shows n (denoted w) r)
+          (ap (λ (j : Judgement). (filled j (picture_of n (image_of text)) old).region) (sym f))
           (subst (λ (i : Image). Shows n i (picture_of n (image_of text))) ((meaning text).image w) (picture-shows n (image_of text) once))
 
   within-reads : Reads text n o

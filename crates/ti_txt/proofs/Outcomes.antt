@@ -15,4 +15,5 @@ pub read-sized : (text : List ℕ) (n : ℕ) (old : List ℕ) → length old ≡
 unfolding read_of
 read-sized text n old sized j e =
     rw (eq-eqb _ _ sized)
-    (ap (λ (m : ℕ). filled j (picture_of m (image_of text)) old) sized ∙ ap (λ (x : Judgement). filled x (picture_of n (image_of text)) old) e)
+    (ap (λ (m : ℕ). filled j (picture_of m (image_of text)) old) sized
+    ∙ ap (λ (x : Judgement). filled x (picture_of n (image_of text)) old) e)

@@ -90,7 +90,9 @@ fn blank_elsewhere(buffer: &[u8], map: &[u8]) -> bool
 // Whether the image of the text keeps its rules and the buffer is its picture.
 fn agrees(text: &[u8], buffer: &[u8]) -> bool
     requires { length buffer.now ≤ 262144 }
-    ensures { result ≡ (is_sound (image_rules (length buffer.now) (image_of text.now)) && same buffer.now (picture_of (length buffer.now) (image_of text.now))) }
+    ensures { result
+        ≡ (is_sound (image_rules (length buffer.now) (image_of text.now))
+        && same buffer.now (picture_of (length buffer.now) (image_of text.now))) }
 {
     let mut map = [0u8; 32768];
     let mut cursor = Cursor::new();

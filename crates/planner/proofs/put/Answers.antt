@@ -29,5 +29,7 @@ returns c =
     let out = a.out.now in
     let some = packet-some a.least core (omega arith) in
     let behind = drop (a.n + length core + 5 - a.n) (drop a.n out) in
-    let put = ap (λ (w : Written). take a.n out ++ (w.buffer ++ behind)) c.write.ensures ∙ packet-part a.n core out (omega arith) (omega arith) (omega arith) in
+    let put =
+    ap (λ (w : Written). take a.n out ++ (w.buffer ++ behind)) c.write.ensures
+    ∙ packet-part a.n core out (omega arith) (omega arith) (omega arith) in
     rw some (omega (arith, packet-length core), λ room. put)

@@ -23,7 +23,8 @@ returns c =
     let headed = c.store-2 in
     let first = c.put-unlocked in
     let second = c.put in
-    let begun : PutIfRoom head 0 out 5 headed.new.out = (omega arith, λ room. headed.ensures ∙ ap (λ (l : List ℕ). stored_at 0 l out) c.head.ensures) in
+    let begun : PutIfRoom head 0 out 5 headed.new.out =
+    (omega arith, λ room. headed.ensures ∙ ap (λ (l : List ℕ). stored_at 0 l out) c.head.ensures) in
     let unlock = c.store.ensures ∙ unlock-core password c.requires in
     let opened = room-then head _ 0 out 5 headed.new.out first.result _ headed.auto.out begun first.ensures in
     let both = room-then _ _ 0 out first.result _ second.result _ (first.auto.out ∙ headed.auto.out) opened second.ensures in

@@ -22,7 +22,14 @@ put-requires c =
     let text = c.args.text.now in (
       omega (arith, ap length c.opening.ensures),
       omega arith,
-      omega (arith, c.requires.0, c.put_front-erased.ensures.0, front_length c.args.password.now c.requires.1, c.put_writes-written.ensures.0, writes_short text),
+      omega (
+        arith,
+        c.requires.0,
+        c.put_front-erased.ensures.0,
+        front_length c.args.password.now c.requires.1,
+        c.put_writes-written.ensures.0,
+        writes_short text,
+      ),
     )
 
 pub returns : goal.returns

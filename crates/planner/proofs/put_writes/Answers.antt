@@ -22,7 +22,8 @@ loop-address-init c =
       begun.auto.core ∙ length-replicate {A = ℕ} 261 0,
       omega (arith, begun.ensures.1),
       omega (arith, begun.ensures.1),
-      subst (λ (i : Image). Reaches (whole args.text.now) args.n args.out.now i (take begun.result begun.new.core) args.n args.out.now) (sym e) first,
+      subst (λ (i : Image). Reaches (whole args.text.now) args.n args.out.now i (take begun.result begun.new.core) args.n args.out.now)
+          (sym e) first,
     )
 
 pub slice_bounds-core-end : goal.slice_bounds-core-end
@@ -34,7 +35,9 @@ slice_bounds-put-end c = sym (length-take-le _ _ (omega arith))
 pub put-held-requires : goal.put-held-requires
 put-held-requires c =
     let l = c.loop-address in
-    let may = reach-allows c.args.text.now c.args.n c.args.out.now _ l.core l.filled l.held l.out l.invariant.3 l.invariant.0 l.invariant.2 c.requires.0 c.requires.1 in
+    let may =
+    reach-allows c.args.text.now c.args.n c.args.out.now _ l.core l.filled l.held l.out l.invariant.3 l.invariant.0 l.invariant.2
+    c.requires.0 c.requires.1 in
     (may.0, omega arith, may.1)
 
 pub slice_bounds-begin-end-in-Segment : goal.slice_bounds-begin-end-in-Segment
@@ -56,7 +59,9 @@ loop-address-preserved-in-Segment c =
     let put : PutIfRoom (packet_from 6 (take l.filled l.core)) l.held l.out p.result p.new.out = p.ensures in
     let begun = c.begin-filled-in-Segment in
     let e = tells-so _ _ _ c.next.ensures c.in-Segment.is in
-    let r = subst (λ (i : Image). Reaches (whole args.text.now) args.n args.out.now i (take l.filled l.core) l.held l.out) (sym e) l.invariant.3 in (
+    let r =
+    subst (λ (i : Image). Reaches (whole args.text.now) args.n args.out.now i (take l.filled l.core) l.held l.out)
+    (sym e) l.invariant.3 in (
       begun.auto.core ∙ l.invariant.0,
       omega (arith, begun.ensures.1),
       omega (arith, begun.ensures.1),
@@ -72,7 +77,9 @@ slice_bounds-put-end-in-Byte c = sym (length-take-le _ _ (omega arith))
 pub put-held-requires-in-Byte : goal.put-held-requires-in-Byte
 put-held-requires-in-Byte c =
     let l = c.loop-address in
-    let may = reach-allows c.args.text.now c.args.n c.args.out.now _ l.core l.filled l.held l.out l.invariant.3 l.invariant.0 l.invariant.2 c.requires.0 c.requires.1 in
+    let may =
+    reach-allows c.args.text.now c.args.n c.args.out.now _ l.core l.filled l.held l.out l.invariant.3 l.invariant.0 l.invariant.2
+    c.requires.0 c.requires.1 in
     (may.0, omega arith, may.1)
 
 pub slice_bounds-begin_if_full-end : goal.slice_bounds-begin_if_full-end
@@ -99,9 +106,13 @@ loop-address-preserved c =
     let p = c.put-held-in-Byte in
     let begun = c.begin_if_full-filled in
     let e = tells-so _ _ _ c.next.ensures c.in-Byte.is in
-    let r = subst (λ (i : Image). Reaches (whole args.text.now) args.n args.out.now i (take l.filled l.core) l.held l.out) (sym e) l.invariant.3 in
+    let r =
+    subst (λ (i : Image). Reaches (whole args.text.now) args.n args.out.now i (take l.filled l.core) l.held l.out)
+    (sym e) l.invariant.3 in
     let sized = begun.auto.core ∙ l.invariant.0 in
-    let more = filled_more l.core _ (addressed 0x20 c.in-Byte.address) l.filled begun.result c.in-Byte.value (omega arith) (omega (arith, begun.ensures.2, sized)) begun.ensures.0 in (
+    let more =
+    filled_more l.core _ (addressed 0x20 c.in-Byte.address) l.filled begun.result c.in-Byte.value (omega arith)
+    (omega (arith, begun.ensures.2, sized)) begun.ensures.0 in (
       simp length-set sized,
       omega (arith, begun.ensures.1),
       omega (arith, begun.ensures.2),
@@ -117,7 +128,9 @@ slice_bounds-put-end-in-Refused c = sym (length-take-le _ _ (omega arith))
 pub put-requires : goal.put-requires
 put-requires c =
     let l = c.loop-address in
-    let may = reach-allows c.args.text.now c.args.n c.args.out.now _ l.core l.filled l.held l.out l.invariant.3 l.invariant.0 l.invariant.2 c.requires.0 c.requires.1 in
+    let may =
+    reach-allows c.args.text.now c.args.n c.args.out.now _ l.core l.filled l.held l.out l.invariant.3 l.invariant.0 l.invariant.2
+    c.requires.0 c.requires.1 in
     (may.0, omega arith, may.1)
 
 pub shape_of-out-in-Refused : goal.shape_of-out-in-Refused
@@ -129,7 +142,9 @@ returns-in-Refused c =
     let l = c.loop-address in
     let p = c.put in
     let e = tells-so _ _ _ c.next.ensures c.in-Refused.is in
-    let r = subst (λ (i : Image). Reaches (whole args.text.now) args.n args.out.now i (take l.filled l.core) l.held l.out) (sym e) l.invariant.3 in
+    let r =
+    subst (λ (i : Image). Reaches (whole args.text.now) args.n args.out.now i (take l.filled l.core) l.held l.out)
+    (sym e) l.invariant.3 in
     reach-end (whole args.text.now) args.n args.out.now _ l.held l.out p.result _ p.auto.out _ refl refl r p.ensures
 
 pub slice_bounds-core-end-in-End : goal.slice_bounds-core-end-in-End
@@ -141,7 +156,9 @@ slice_bounds-put-end-in-End c = sym (length-take-le _ _ (omega arith))
 pub put-requires-in-End : goal.put-requires-in-End
 put-requires-in-End c =
     let l = c.loop-address in
-    let may = reach-allows c.args.text.now c.args.n c.args.out.now _ l.core l.filled l.held l.out l.invariant.3 l.invariant.0 l.invariant.2 c.requires.0 c.requires.1 in
+    let may =
+    reach-allows c.args.text.now c.args.n c.args.out.now _ l.core l.filled l.held l.out l.invariant.3 l.invariant.0 l.invariant.2
+    c.requires.0 c.requires.1 in
     (may.0, omega arith, may.1)
 
 pub shape_of-out-in-End : goal.shape_of-out-in-End
@@ -153,5 +170,7 @@ returns-in-End c =
     let l = c.loop-address in
     let p = c.put-in-End in
     let e = tells-so _ _ _ c.next.ensures c.in-End.is in
-    let r = subst (λ (i : Image). Reaches (whole args.text.now) args.n args.out.now i (take l.filled l.core) l.held l.out) (sym e) l.invariant.3 in
+    let r =
+    subst (λ (i : Image). Reaches (whole args.text.now) args.n args.out.now i (take l.filled l.core) l.held l.out)
+    (sym e) l.invariant.3 in
     reach-end (whole args.text.now) args.n args.out.now _ l.held l.out p.result _ p.auto.out _ refl refl r p.ensures

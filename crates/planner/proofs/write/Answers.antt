@@ -20,7 +20,8 @@ returns-then-out-length c =
     let args = c.args in
     let out = args.out.now in
     let script = page_script (image_of args.text.now) args.password.now args.entry [] in
-    let short : ltb (length out) (length script) ≡ true = lt-ltb (length out) (length script) (omega (arith, c.put_script-length.ensures.0)) in
+    let short : ltb (length out) (length script) ≡ true =
+    lt-ltb (length out) (length script) (omega (arith, c.put_script-length.ensures.0)) in
     rw short (ap (λ (p : Planned). left (said p) out) c.refuse.ensures)
 
 pub returns : goal.returns
@@ -30,6 +31,7 @@ returns c =
     let out = args.out.now in
     let script = page_script (image_of args.text.now) args.password.now args.entry [] in
     let put = c.put_script.ensures in
-    let long : ltb (length out) (length script) ≡ false = le-ltb (length out) (length script) (omega (arith, c.put_script-length.ensures.0)) in
+    let long : ltb (length out) (length script) ≡ false =
+    le-ltb (length out) (length script) (omega (arith, c.put_script-length.ensures.0)) in
     let whole : c.put_script.result ≡ length script = omega (arith, put.0) in
     rw long (ap₂ (λ (n : ℕ) (l : List ℕ). left (planned n) l) whole (put.1 (omega (arith, c.put_script-length.ensures.0))))

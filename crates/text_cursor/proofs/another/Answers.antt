@@ -15,10 +15,17 @@ pub returns-then-pairs-ge16 : goal.returns-then-pairs-ge16
 returns-then-pairs-ge16 c =
     let args = c.args in
     let pre = c.requires in
-    tells-fault _ _ _ _ (sym (from_step _ args.at (gap args.pairs args.address) stuck pre.1 (gap-stuck _ _ args.at _ c.if-pairs-ge16.true pre.2)))
+    tells-fault _ _ _ _
+    (sym (from_step _ args.at (gap args.pairs args.address) stuck pre.1 (gap-stuck _ _ args.at _ c.if-pairs-ge16.true pre.2)))
 
 pub pair-requires : goal.pair-requires
-pair-requires c = (subst (λ (x : ℕ). x < 16) (sym c.digit_of.ensures) c.requires.2, c.requires.0, c.requires.1, omega arith, omega (arith, c.if-pairs-ge16.false))
+pair-requires c = (
+  subst (λ (x : ℕ). x < 16) (sym c.digit_of.ensures) c.requires.2,
+  c.requires.0,
+  c.requires.1,
+  omega arith,
+  omega (arith, c.if-pairs-ge16.false),
+)
 
 pub returns : goal.returns
 returns c =
@@ -27,5 +34,8 @@ returns c =
     let at = args.at in
     let k = args.pairs in
     let a = args.address in
-    let goes = from_step text at (gap k a) (on (half at (k + 1) a (digit (get_or text at 0)))) c.requires.1 (gap-digit k a at _ (omega (arith, c.if-pairs-ge16.false)) c.requires.2) in
-    tells-on text at at _ _ _ (omega arith) (ap (λ (x : ℕ). from (half at (k + 1) a x) (at + 1) text) c.digit_of.ensures ∙ sym goes) c.pair.ensures
+    let goes =
+    from_step text at (gap k a) (on (half at (k + 1) a (digit (get_or text at 0)))) c.requires.1
+    (gap-digit k a at _ (omega (arith, c.if-pairs-ge16.false)) c.requires.2) in
+    tells-on text at at _ _ _ (omega arith)
+    (ap (λ (x : ℕ). from (half at (k + 1) a x) (at + 1) text) c.digit_of.ensures ∙ sym goes) c.pair.ensures

@@ -64,7 +64,10 @@ loop-past-preserved c =
     let d = c.digit_of-digit in
     let less : l.count < 8 = c.if-count-ge8.false in
     let hex = is-hex (get_or text l.past 0) _ d.ensures c.if-digit-ge16.false in
-    let goes = from_step text l.past (number l.count l.value) (on (number (l.count + 1) (l.value * 16 + digit (get_or text l.past 0)))) c.loop-past-test.true (number-digit l.count l.value l.past _ (omega arith) hex) in (
+    let goes =
+    from_step text l.past (number l.count l.value)
+    (on (number (l.count + 1) (l.value * 16 + digit (get_or text l.past 0)))) c.loop-past-test.true
+    (number-digit l.count l.value l.past _ (omega arith) hex) in (
       omega (arith, l.invariant.0),
       omega (arith, l.invariant.1),
       omega arith,

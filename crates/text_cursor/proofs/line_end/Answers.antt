@@ -14,8 +14,10 @@ returns-then-text-at c = (λ l. sym (end_none _ _ l c.if-text-at.true), tt)
 pub returns-then-b-eq10 : goal.returns-then-b-eq10
 returns-then-b-eq10 c =
     let text = c.args.text.now in
-    let at = c.args.at in
-    (λ l. sym (end_step text at l (ended l) c.if-text-at.false (ap (ends l) c.if-b-eq10.true ∙ ends-feed l) ∙ ended_at l at (at + 1) _), (omega arith, omega arith))
+    let at = c.args.at in (
+      λ l. sym (end_step text at l (ended l) c.if-text-at.false (ap (ends l) c.if-b-eq10.true ∙ ends-feed l) ∙ ended_at l at (at + 1) _),
+      (omega arith, omega arith),
+    )
 
 pub returns-then-b-ne13 : goal.returns-then-b-ne13
 returns-then-b-ne13 c =
@@ -23,15 +25,26 @@ returns-then-b-ne13 c =
 
 pub returns-then-text-next : goal.returns-then-text-next
 returns-then-text-next c =
-    let at = c.args.at in
-    (λ l. sym (end_step _ at l (on (return l)) c.if-text-at.false (ap (ends l) c.if-b-ne13.false ∙ ends_return l) ∙ from_end _ (at + 1) (return l) c.if-text-next.true), tt)
+    let at = c.args.at in (
+      λ l. sym (end_step _ at l (on (return l)) c.if-text-at.false (ap (ends l) c.if-b-ne13.false ∙ ends_return l)
+          ∙ from_end _ (at + 1) (return l) c.if-text-next.true),
+      tt,
+    )
 
 pub returns-then-text-next-eq10 : goal.returns-then-text-next-eq10
 returns-then-text-next-eq10 c =
-    let at = c.args.at in
-    (λ l. sym (end_step _ at l (on (return l)) c.if-text-at.false (ap (ends l) c.if-b-ne13.false ∙ ends_return l) ∙ from_step _ (at + 1) (return l) (ended l) c.if-text-next.false (ap (step (return l) (at + 1)) c.if-text-next-eq10.true ∙ step_other (return l) (at + 1) 10 feed-other) ∙ ended_at l (at + 1) (at + 1 + 1) _), (omega arith, omega arith))
+    let at = c.args.at in (
+      λ l. sym (end_step _ at l (on (return l)) c.if-text-at.false (ap (ends l) c.if-b-ne13.false ∙ ends_return l)
+          ∙ from_step _ (at + 1) (return l) (ended l) c.if-text-next.false
+          (ap (step (return l) (at + 1)) c.if-text-next-eq10.true ∙ step_other (return l) (at + 1) 10 feed-other)
+          ∙ ended_at l (at + 1) (at + 1 + 1) _),
+      (omega arith, omega arith),
+    )
 
 pub returns : goal.returns
 returns c =
-    let at = c.args.at in
-    (λ l. sym (end_step _ at l (on (return l)) c.if-text-at.false (ap (ends l) c.if-b-ne13.false ∙ ends_return l) ∙ from_step _ (at + 1) (return l) stuck c.if-text-next.false (step-return l (at + 1) _ c.if-text-next-eq10.false)), tt)
+    let at = c.args.at in (
+      λ l. sym (end_step _ at l (on (return l)) c.if-text-at.false (ap (ends l) c.if-b-ne13.false ∙ ends_return l)
+          ∙ from_step _ (at + 1) (return l) stuck c.if-text-next.false (step-return l (at + 1) _ c.if-text-next-eq10.false)),
+      tt,
+    )

@@ -25,5 +25,8 @@ returns c =
     let text = c.args.text.now in
     let at = c.args.at in
     let k = c.args.pairs in
-    let some : 0 < k = omega (arith, c.if-pairs-eq0.false) in
-    (λ a. c.behind_pair.ensures.0 k a c.if-pairs-ge-START.false ∙ ap (λ (s : State). from s at text) (sym (stop-pair k a some c.if-pairs-ge-START.false)), c.behind_pair.ensures.1)
+    let some : 0 < k = omega (arith, c.if-pairs-eq0.false) in (
+      λ a. c.behind_pair.ensures.0 k a c.if-pairs-ge-START.false
+          ∙ ap (λ (s : State). from s at text) (sym (stop-pair k a some c.if-pairs-ge-START.false)),
+      c.behind_pair.ensures.1,
+    )

@@ -19,7 +19,9 @@ pub returns-then-first-ge16 : goal.returns-then-first-ge16
 returns-then-first-ge16 c =
     let text = c.args.text.now in
     let at = c.args.at in
-    tells-fault text at at _ (sym (from_step text at sign stuck c.if-text-at.false (step_other sign at _ (not-hex _ _ c.digit_of-first.ensures c.if-first-ge16.true))))
+    tells-fault text at at _
+    (sym (from_step text at sign stuck c.if-text-at.false
+    (step_other sign at _ (not-hex _ _ c.digit_of-first.ensures c.if-first-ge16.true))))
 
 pub returns-in-Past : goal.returns-in-Past
 returns-in-Past c =
@@ -32,11 +34,16 @@ returns-in-Past c =
     let beyond = c.in-Past.ensures.1 in
     let hex = is-hex (get_or text at 0) _ d.ensures c.if-first-ge16.false in
     let goes = from_step text at sign (on (number 1 (digit (get_or text at 0)))) c.if-text-at.false (step-hex sign at _ hex) in
-    let ends-here = end-from text n.past (number k.count n.value) (opening n.value) refl (λ h. number-ends k.count n.value n.past _ (k.stops h)) in
+    let ends-here =
+    end-from text n.past (number k.count n.value) (opening n.value) refl (λ h. number-ends k.count n.value n.past _ (k.stops h)) in
     let found = c.in-Past.ensures.0 (opening n.value) in
-    let behind = rest-near text next 0 n.value (omega (arith, k.small)) ∙ ap (λ s. from s next text) (stop-line 0 n.value refl ∙ state-below 0 n.value (omega arith)) in
+    let behind =
+    rest-near text next 0 n.value (omega (arith, k.small))
+    ∙ ap (λ s. from s next text) (stop-line 0 n.value refl ∙ state-below 0 n.value (omega arith)) in
     record {
-      tells = ap (segment n.value) behind ∙ found ∙ ends-here ∙ sym k.reads ∙ ap (λ (x : ℕ). from (number 1 x) (at + 1) text) d.ensures ∙ sym goes;
+      tells =
+          ap (segment n.value) behind ∙ found ∙ ends-here ∙ sym k.reads ∙ ap (λ (x : ℕ). from (number 1 x) (at + 1) text) d.ensures
+          ∙ sym goes;
       further = (omega (arith, k.behind_first, beyond.0), beyond.1);
     }
 
@@ -49,6 +56,7 @@ returns-in-Fault c =
     let k = c.digits-number.ensures in
     let hex = is-hex (get_or text at 0) _ d.ensures c.if-first-ge16.false in
     let goes = from_step text at sign (on (number 1 (digit (get_or text at 0)))) c.if-text-at.false (step-hex sign at _ hex) in
-    let ends-here = end-from text n.past (number k.count n.value) (opening n.value) refl (λ h. number-ends k.count n.value n.past _ (k.stops h)) in
+    let ends-here =
+    end-from text n.past (number k.count n.value) (opening n.value) refl (λ h. number-ends k.count n.value n.past _ (k.stops h)) in
     let found = c.in-Fault.ensures.0 (opening n.value) in
     tells-fault text at _ _ (found ∙ ends-here ∙ sym k.reads ∙ ap (λ (x : ℕ). from (number 1 x) (at + 1) text) d.ensures ∙ sym goes)

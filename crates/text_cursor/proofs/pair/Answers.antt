@@ -24,7 +24,9 @@ returns-then-low-ge16 c =
     let text = start.text.now in
     let at = start.at in
     let s = half at start.pairs start.address start.high in
-    tells-fault text at (at + 1) _ (sym (from_step text (at + 1) s stuck c.if-text-second.false (step_other s (at + 1) _ (not-hex _ _ c.digit_of-low.ensures c.if-low-ge16.true))))
+    tells-fault text at (at + 1) _
+    (sym (from_step text (at + 1) s stuck c.if-text-second.false
+    (step_other s (at + 1) _ (not-hex _ _ c.digit_of-low.ensures c.if-low-ge16.true))))
 
 pub overflow_mul-result : goal.overflow_mul-result
 overflow_mul-result c = omega arith
@@ -49,9 +51,15 @@ returns c =
     let d = c.digit_of-low in
     let hex = is-hex (get_or text (at + 1) 0) _ d.ensures c.if-low-ge16.false in
     let s = half at k a high in
-    let goes = from_step text (at + 1) s (gives at k a (high * 16 + digit (get_or text (at + 1) 0))) c.if-text-second.false (step-hex s (at + 1) _ hex) in
-    let behind = rest-near text (at + 1 + 1) k (a + 1) (omega (arith, c.requires.1)) ∙ ap (λ s. from s (at + 1 + 1) text) (stop-pair k (a + 1) c.requires.3 c.requires.4) in
+    let goes =
+    from_step text (at + 1) s (gives at k a (high * 16 + digit (get_or text (at + 1) 0))) c.if-text-second.false
+    (step-hex s (at + 1) _ hex) in
+    let behind =
+    rest-near text (at + 1 + 1) k (a + 1) (omega (arith, c.requires.1))
+    ∙ ap (λ s. from s (at + 1 + 1) text) (stop-pair k (a + 1) c.requires.3 c.requires.4) in
     record {
-      tells = ap (byte at a (high * 16 + d.result)) behind ∙ ap (λ (x : ℕ). byte at a (high * 16 + x) (from (full k (a + 1)) (at + 1 + 1) text)) d.ensures ∙ sym goes;
+      tells =
+          ap (byte at a (high * 16 + d.result)) behind
+          ∙ ap (λ (x : ℕ). byte at a (high * 16 + x) (from (full k (a + 1)) (at + 1 + 1) text)) d.ensures ∙ sym goes;
       further = (omega arith, omega (arith, c.if-text-second.false));
     }

@@ -10,7 +10,9 @@ use Rattle.text_image.proofs.Walks.{Walking}
 use Rattle.text_image.proofs.walk.Given as goal
 
 abbrev pub invariant-loop-next : goal.invariant-loop-next
-invariant-loop-next l = (length l.map ≡ 32768) × (length l.region ≡ length l.initial.region) × (fault_of (rest l.text l.cursor) ≡ fault_of (image_of l.text)) × Walking l.task l.found l.size l.map (image_of l.text) (rest l.text l.cursor) l.initial.region l.region
+invariant-loop-next l =
+    (length l.map ≡ 32768) × (length l.region ≡ length l.initial.region) × (fault_of (rest l.text l.cursor) ≡ fault_of (image_of l.text))
+    × Walking l.task l.found l.size l.map (image_of l.text) (rest l.text l.cursor) l.initial.region l.region
 
 abbrev pub decreases-loop-next : goal.decreases-loop-next
 decreases-loop-next l = length l.text - l.cursor.at

@@ -25,8 +25,12 @@ use Rattle.ti_txt.proofs.agrees.Goals as goal
 pub loop-next-init : goal.loop-next-init
 loop-next-init c =
     let buffer = c.args.buffer.now in
-    let e = rest-beginning c.args.text.now _ c.new-cursor.ensures in
-    (length-replicate {A = ℕ} 32768 0, ap fault_of e, ap (outside_of (length buffer)) e, agreed-start buffer _ _ _ e (λ a. unmarked 32768 a))
+    let e = rest-beginning c.args.text.now _ c.new-cursor.ensures in (
+      length-replicate {A = ℕ} 32768 0,
+      ap fault_of e,
+      ap (outside_of (length buffer)) e,
+      agreed-start buffer _ _ _ e (λ a. unmarked 32768 a),
+    )
 
 pub loop-next-smaller-in-Segment : goal.loop-next-smaller-in-Segment
 loop-next-smaller-in-Segment c =
@@ -105,4 +109,5 @@ returns-in-End c =
     let e = tells-so _ _ _ c.next.ensures c.in-End.is in
     let inv = c.loop-next.invariant in
     let whole = parts-sound (length buffer) image (ap fault_of e ∙ inv.1) (end-outside e _ ∙ inv.2) (end-repeated e _ ∙ inv.3.repeats) in
-    agreed-end _ _ _ _ inv.3 e _ c.blank_elsewhere.ensures ∙ ap (λ (t : Bool). t && same buffer (picture_of (length buffer) image)) (sym whole)
+    agreed-end _ _ _ _ inv.3 e _ c.blank_elsewhere.ensures
+    ∙ ap (λ (t : Bool). t && same buffer (picture_of (length buffer) image)) (sym whole)

@@ -34,7 +34,8 @@ loop-i-preserved c =
     let buffer = c.args.buffer.now in
     let map = c.args.map.now in (
       omega arith,
-      below_more (λ (j : ℕ). marked map j ≡ false → get_or buffer j 0 ≡ 255) l.i l.invariant.1 (stands _ _ (sym c.may_stand.ensures ∙ c.if-not-may_stand.false)),
+      below_more (λ (j : ℕ). marked map j ≡ false → get_or buffer j 0 ≡ 255) l.i l.invariant.1
+          (stands _ _ (sym c.may_stand.ensures ∙ c.if-not-may_stand.false)),
     )
 
 pub returns : goal.returns

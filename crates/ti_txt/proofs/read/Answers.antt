@@ -14,7 +14,8 @@ use Rattle.ti_txt.proofs.read.Goals as goal
 
 pub returns-then-region-size : goal.returns-then-region-size
 unfolding read_of
-returns-then-region-size c = simp (ne_eqb _ _ c.if-region-size.true) (ap (λ (v : Verdict). outcome (judged v) c.args.region.now) c.refuse.ensures)
+returns-then-region-size c =
+    simp (ne_eqb _ _ c.if-region-size.true) (ap (λ (v : Verdict). outcome (judged v) c.args.region.now) c.refuse.ensures)
 
 pub returns : goal.returns
 returns c =
