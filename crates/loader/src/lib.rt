@@ -27,7 +27,7 @@ pub struct Loader {
 }
 
 // What is answered to a message.
-#[derive(Drop)]
+#[derive(Clone, Copy)]
 pub enum Reply {
     // No byte: a start that ends in application.
     Nothing,
