@@ -21,7 +21,7 @@ use Rattle.script.specs.Page.{Range, page_script, Inside, ByTheRules}
 use Rattle.script.specs.Script.{longest_script, headed, Frames, frames_of}
 use Rattle.script.proofs.Pages.{page-headed, page-framed}
 use Rattle.text_image.specs.Picture.{placed, picture_of}
-use Rattle.text_image.specs.Rules.{sound, refused, rules_of}
+use Rattle.text_image.specs.Rules.{sound, rules_of}
 use Rattle.text_image.proofs.Pictures.{length-placed}
 use Rattle.text_image.proofs.Sounds.{sound-parts, sound-image}
 use Rattle.delivery.specs.Check.{passed, Checked, Trial, trial, locked, step_of, judged_of, unless_refused, run_from, run_of, check_of}
