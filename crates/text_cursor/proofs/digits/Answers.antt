@@ -62,7 +62,7 @@ loop-past-preserved c =
     let text = c.args.text.now in
     let l = c.loop-past in
     let d = c.digit_of-digit in
-    let less : l.count < 8 = c.if-count-ge8.false in
+    let less : l.count < 8 = omega arith in
     let hex = is-hex (get_or text l.past 0) _ d.ensures c.if-digit-ge16.false in
     let goes =
     from_step text l.past (number l.count l.value)
