@@ -45,7 +45,7 @@ pub enum Request {
 }
 
 // How a request is answered.
-#[derive(Drop)]
+#[derive(Clone, Copy)]
 pub enum Response {
     Refused(Refusal),
     // With so many bytes; the state stays.

@@ -32,7 +32,7 @@ const LONGEST: usize = 2097152;
 const START: u8 = 0x27;
 
 // What is said of a script.
-#[derive(Drop)]
+#[derive(Clone, Copy)]
 pub enum Answer {
     Passed,
     Refused { refusal: Refusal, place: usize },
@@ -40,7 +40,7 @@ pub enum Answer {
 
 // What is said, the number of packets that succeeded, and that of the bytes still unknown at the end of
 // the run, which is 0 on pass and for a refusal before the run was begun.
-#[derive(Drop)]
+#[derive(Clone, Copy)]
 pub struct Checked {
     pub answer: Answer,
     pub packets: usize,
@@ -48,7 +48,7 @@ pub struct Checked {
 }
 
 // What becomes of a packet: it is refused, or the loader goes on to its next state.
-#[derive(Drop)]
+#[derive(Clone, Copy)]
 enum Step {
     Refused(Refusal),
     Ran(Loader),

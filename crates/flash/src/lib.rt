@@ -8,7 +8,7 @@ ghost use Rattle.little_endian.specs.Bytes.{stored_at};
 ghost use Rattle.flash.specs.Flash.{inside, writable, allows_of, written, write_of, range_of, starts_of};
 
 // The checksum of a range.
-#[derive(Drop)]
+#[derive(Clone, Copy)]
 pub enum RangeSum {
     // The range is not inside the region.
     Outside,

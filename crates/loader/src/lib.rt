@@ -40,7 +40,7 @@ pub enum Reply {
 }
 
 // What a message leaves of the loader's part of the state, and the reply to it.
-#[derive(Drop)]
+#[derive(Clone, Copy)]
 pub struct Received {
     pub loader: Loader,
     pub reply: Reply,

@@ -21,7 +21,7 @@ const LEAST: usize = 6;
 const FULL: usize = 261;
 
 // What is answered.
-#[derive(Drop)]
+#[derive(Clone, Copy)]
 pub enum Planned {
     Refused { refusal: Refusal, place: usize },
     // The length of the script.

@@ -13,14 +13,14 @@ use sensor_values::SensorRecord;
 const LENGTH: usize = 64;
 
 // What the reader answers.
-#[derive(Drop)]
+#[derive(Clone, Copy)]
 pub enum ReadRecord {
     Refused(Refusal),
     Held(SensorRecord),
 }
 
 // What the writer answers.
-#[derive(Drop)]
+#[derive(Clone, Copy)]
 pub enum WroteRecord {
     Refused(Refusal),
     Written,

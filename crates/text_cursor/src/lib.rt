@@ -47,14 +47,14 @@ pub enum Token {
 }
 
 // The place behind a line's end, or where there is none.
-#[derive(Drop)]
+#[derive(Clone, Copy)]
 enum LineEnd {
     Past(usize),
     Fault(usize),
 }
 
 // What stands behind a cursor: another pair of its line, a line, or neither.
-#[derive(Drop)]
+#[derive(Clone, Copy)]
 enum Ahead {
     Pair(usize),
     Line(usize),
@@ -62,7 +62,7 @@ enum Ahead {
 }
 
 // An address, and the place behind its digits.
-#[derive(Drop)]
+#[derive(Clone, Copy)]
 struct Number {
     value: u64,
     past: usize,

@@ -16,21 +16,21 @@ use text_cursor::{Cursor, Token};
 pub const LONGEST: usize = 1048576;
 
 // What is said of a text.
-#[derive(Drop)]
+#[derive(Clone, Copy)]
 pub enum Verdict {
     Sound,
     Refused { refusal: Refusal, place: usize },
 }
 
 // What a walk is for.
-#[derive(Drop)]
+#[derive(Clone, Copy)]
 enum Task {
     Judge,
     Place,
 }
 
 // The first pair outside the region, or else the first whose address was given before.
-#[derive(Drop)]
+#[derive(Clone, Copy)]
 enum Found {
     Nothing,
     Repeated(usize),

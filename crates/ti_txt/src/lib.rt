@@ -17,10 +17,10 @@ use text_cursor::{Cursor, Token};
 use text_image::Verdict;
 
 // Whether the text was found sound.
-fn is_sound(verdict: &Verdict) -> bool
-    ensures { result ≡ is_sound (judged verdict.now) }
+fn is_sound(verdict: Verdict) -> bool
+    ensures { result ≡ is_sound (judged verdict) }
 {
-    match *verdict {
+    match verdict {
         Verdict::Sound => true,
         Verdict::Refused {
             refusal: _,
@@ -48,7 +48,7 @@ pub fn read(text: &[u8], size: usize, region: &mut [u8]) -> Verdict
         return text_image::refuse(Refusal::RegionSize, 0);
     }
     let verdict = text_image::judge(text, size);
-    let sound = is_sound(&verdict);
+    let sound = is_sound(verdict);
     show(text, region, sound);
     verdict
 }

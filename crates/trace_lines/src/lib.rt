@@ -11,7 +11,7 @@ use lines::{append_cut, append_end, append_line};
 use loader::{Loader, Mode, Reply};
 
 // How a trace ends.
-#[derive(Drop)]
+#[derive(Clone, Copy)]
 pub enum Ending {
     // At the script's end, or behind a start that succeeded.
     InMode(Mode),
@@ -24,7 +24,7 @@ pub enum Ending {
 }
 
 // A line, its end included: the first of the bytes, so many as its length. The longest has 29.
-#[derive(Drop)]
+#[derive(Clone, Copy)]
 pub struct Line {
     pub bytes: [u8; 32],
     pub length: usize,

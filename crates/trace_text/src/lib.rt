@@ -26,7 +26,7 @@ pub enum Kind {
 }
 
 // What is answered.
-#[derive(Drop)]
+#[derive(Clone, Copy)]
 pub enum Traced {
     Refused(Refusal),
     // The length of the text.
@@ -43,7 +43,7 @@ pub const ROOM: usize = 65536;
 pub const CUTS_ROOM: usize = 524288;
 
 // What a packet leaves of the loader's part of the state, and how many bytes a buffer has then.
-#[derive(Drop)]
+#[derive(Clone, Copy)]
 struct Ran {
     state: Loader,
     held: usize,
