@@ -1,5 +1,5 @@
 /* The public functions of documents 01 and 02, and one to join checksums, in target/staticlib/libzlatopysk.a, which
-   `rt staticlib zlatopysk` builds for Linux on x86-64. Each is proved: it answers and leaves what crates/zlatopysk
+   bindings/build makes for Linux on x86-64. Each is proved: it answers and leaves what crates/zlatopysk
    says, for every input, reads and writes nothing but what it is lent, and returns.
 
    Bytes are lent as a pointer and then their number. A pointer is never null, not even with the number 0. Memory that

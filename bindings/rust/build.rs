@@ -1,4 +1,4 @@
-// Links libzlatopysk.a, which `rt staticlib zlatopysk` builds.
+// Links libzlatopysk.a, which bindings/build makes.
 use std::env;
 use std::path::Path;
 

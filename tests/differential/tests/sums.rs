@@ -13,11 +13,11 @@ const ALL: &str = "of all bytes of the region, 0xff where no segment stands";
 const REPLIES: &str = "replies are those of an unlocked loader that holds the image; \
     a locked one wants its password first";
 
-/// The program, which the gate has built by now.
+/// The program, which tests/library has built by now.
 fn program() -> PathBuf {
     let home = Path::new(env!("CARGO_MANIFEST_DIR")).join("../..");
     let program = home.join("target/bin/cardtool");
-    assert!(program.exists(), "rt check cardtool builds the program");
+    assert!(program.exists(), "./cardtool builds the program");
     program
 }
 
