@@ -3,16 +3,17 @@ use crate::settings::Setup;
 use card::{Answer, Card};
 use loader::Mode;
 use refusal::Refusal;
+use std::io;
 use vector_lines::show;
 
 // What every byte of the reply buffer is before a call.
 const BEFORE: u8 = 0xEE;
 
-fn mode_name(mode: Mode) {
+fn mode_name(rt: &impl Print, mode: Mode) -> io::Result<()> {
     match mode {
-        Mode::Application => show::text(b" application"),
-        Mode::Locked => show::text(b" locked"),
-        Mode::Unlocked => show::text(b" unlocked"),
+        Mode::Application => show::text(rt, b" application"),
+        Mode::Locked => show::text(rt, b" locked"),
+        Mode::Unlocked => show::text(rt, b" unlocked"),
     }
 }
 
@@ -25,9 +26,9 @@ fn mode_number(mode: Mode) -> u8 {
     }
 }
 
-fn region_checksum(region: &[u8]) {
-    show::text(b", region");
-    show::hex(crc::checksum(crc::START, region) as usize, 4);
+fn region_checksum(rt: &impl Print, region: &[u8]) -> io::Result<()> {
+    show::text(rt, b", region")?;
+    show::hex(rt, crc::checksum(crc::START, region) as usize, 4)
 }
 
 // Whether two cards have the same mode and expect the same checksum.
@@ -40,39 +41,46 @@ fn same_state(a: Card, b: Card) -> bool {
 }
 
 // A refusal, and whether everything is as it was.
-fn refused(why: Refusal, kept: bool) {
-    show::text(b" refused");
-    show::decimal(refusal::number(why) as usize);
-    show::text(b",");
-    show::kept(kept);
+fn refused(rt: &impl Print, why: Refusal, kept: bool) -> io::Result<()> {
+    show::text(rt, b" refused")?;
+    show::decimal(rt, refusal::number(why) as usize)?;
+    show::text(rt, b",")?;
+    show::kept(rt, kept)
 }
 
 // The bytes of a reply, and whether the rest of its buffer is as it was.
-fn replied(count: usize, success: bool, mode: Mode, region: &[u8], reply: &[u8]) {
-    show::decimal(count);
+fn replied(
+    rt: &impl Print,
+    count: usize,
+    success: bool,
+    mode: Mode,
+    region: &[u8],
+    reply: &[u8],
+) -> io::Result<()> {
+    show::decimal(rt, count)?;
     if reply.len() < count {
-        show::text(b" above the buffer's length");
-        return;
+        return show::text(rt, b" above the buffer's length");
     }
-    show::bytes(&reply[..count]);
+    show::bytes(rt, &reply[..count])?;
     if success {
-        show::text(b", success");
+        show::text(rt, b", success")?;
     }
-    show::text(b",");
-    mode_name(mode);
-    region_checksum(region);
-    show::text(b", rest");
-    show::kept(byte_parts::every(&reply[count..], BEFORE));
+    show::text(rt, b",")?;
+    mode_name(rt, mode)?;
+    region_checksum(rt, region)?;
+    show::text(rt, b", rest")?;
+    show::kept(rt, byte_parts::every(&reply[count..], BEFORE))
 }
 
 // One call with just what is lent to it.
 fn call_with(
+    rt: &impl Print,
     setup: Setup,
     message: &[u8],
     password: &[u8],
     region: &mut [u8],
     reply: &mut [u8],
-) -> Card {
+) -> io::Result<Card> {
     let before = setup.card;
     let sum = crc::checksum(crc::START, region);
     let called = card::call(before, setup.size, region, password, message, reply);
@@ -85,36 +93,43 @@ fn call_with(
             let same = same_state(before, after);
             let kept = (crc::checksum(crc::START, region) == sum)
                 & byte_parts::every(reply, BEFORE);
-            refused(why, same & kept);
+            refused(rt, why, same & kept)?;
         }
-        Answer::Replied { count, success } => replied(count, success, mode, region, reply),
+        Answer::Replied { count, success } => replied(rt, count, success, mode, region, reply)?,
     }
-    after
+    Ok(after)
 }
 
 // There is no memory of a length that is to be lent: the card as it was.
-fn lacking(card: Card) -> Card {
-    show::text(b" no memory of that length");
-    card
+fn lacking(rt: &impl Print, card: Card) -> io::Result<Card> {
+    show::text(rt, b" no memory of that length")?;
+    Ok(card)
 }
 
 // A message to the card, answered. What is handed back is the card after it.
-pub fn call(setup: Setup, message: &[u8], password: &[u8], region: &mut [u8]) -> Card {
+pub fn call(
+    rt: &impl Print,
+    setup: Setup,
+    message: &[u8],
+    password: &[u8],
+    region: &mut [u8],
+) -> io::Result<Card> {
     let mut reply = [BEFORE; 72];
     let held = setup.region;
     let secret = setup.password;
     let room = setup.reply;
     let card = setup.card;
     if region.len() < held {
-        return lacking(card);
+        return lacking(rt, card);
     }
     if password.len() < secret {
-        return lacking(card);
+        return lacking(rt, card);
     }
     if 72 < room {
-        return lacking(card);
+        return lacking(rt, card);
     }
     call_with(
+        rt,
         setup,
         message,
         &password[..secret],
@@ -124,31 +139,29 @@ pub fn call(setup: Setup, message: &[u8], password: &[u8], region: &mut [u8]) ->
 }
 
 // The password's length.
-pub fn key(n: usize) {
-    show::text(b" password of");
-    show::decimal(n);
+pub fn key(rt: &impl Print, n: usize) -> io::Result<()> {
+    show::text(rt, b" password of")?;
+    show::decimal(rt, n)
 }
 
 // Whether the card's record keeps its rule.
-pub fn record(card: Card) {
+pub fn record(rt: &impl Print, card: Card) -> io::Result<()> {
     let record = card.record;
     if sensor_values::sound(record) {
-        show::text(b" sound");
-        return;
+        return show::text(rt, b" sound");
     }
-    show::text(b" breaks its rule");
+    show::text(rt, b" breaks its rule")
 }
 
 // The card's mode, and the checksum of the region that is lent.
-pub fn state(setup: Setup, region: &[u8]) {
+pub fn state(rt: &impl Print, setup: Setup, region: &[u8]) -> io::Result<()> {
     let card = setup.card;
     let loader = card.loader;
     let mode = loader.mode;
     let held = setup.region;
-    mode_name(mode);
+    mode_name(rt, mode)?;
     if region.len() < held {
-        show::text(b", no region of that length");
-        return;
+        return show::text(rt, b", no region of that length");
     }
-    region_checksum(&region[..held]);
+    region_checksum(rt, &region[..held])
 }

@@ -21,8 +21,9 @@ mod answers;
 mod lines;
 mod settings;
 
-fn main() {
-    let mut input = io::large_buffer();
-    let n = io::read_full(libc::STDIN_FILENO, &mut input);
-    lines::run(&input[..n]);
+use std::io;
+
+fn main(rt: HostRuntime) -> io::Result<()> {
+    let input = vector_lines::input(&rt)?;
+    lines::run(&rt, &input)
 }

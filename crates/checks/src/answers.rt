@@ -1,6 +1,7 @@
 // Scripts, checked and answered.
 use crate::settings::Setup;
 use checker::{Answer, Checked};
+use std::io;
 use vector_lines::show;
 
 // What every byte of the region and of the known bits is when it is lent: no fill of the checker's, so that
@@ -17,48 +18,49 @@ fn expected(setup: Setup, text: &[u8], region: &mut [u8]) -> u16 {
     crc::checksum(crc::START, region)
 }
 
-fn verdict(answer: Answer) {
+fn verdict(rt: &impl Print, answer: Answer) -> io::Result<()> {
     match answer {
-        Answer::Passed => show::text(b" pass"),
+        Answer::Passed => show::text(rt, b" pass"),
         Answer::Refused { refusal, place } => {
-            show::text(b" ");
-            show::refused(refusal::number(refusal), place);
+            show::text(rt, b" ")?;
+            show::refused(rt, refusal::number(refusal), place)
         }
     }
 }
 
 // Lent memory: its checksum, and whether it is as it was lent.
-fn described(lent: &[u8]) {
-    show::hex(crc::checksum(crc::START, lent) as usize, 4);
-    show::kept(byte_parts::every(lent, BEFORE));
+fn described(rt: &impl Print, lent: &[u8]) -> io::Result<()> {
+    show::hex(rt, crc::checksum(crc::START, lent) as usize, 4)?;
+    show::kept(rt, byte_parts::every(lent, BEFORE))
 }
 
 // What was answered, and what was left in the lent memory.
-fn shown(checked: Checked, region: &[u8], known: &[u8]) {
+fn shown(rt: &impl Print, checked: Checked, region: &[u8], known: &[u8]) -> io::Result<()> {
     let answer = checked.answer;
-    verdict(answer);
-    show::text(b",");
-    show::decimal(checked.packets);
-    show::text(b" packets,");
-    show::decimal(checked.unknown);
-    show::text(b" unknown, region");
-    described(region);
-    show::text(b", known");
-    described(known);
+    verdict(rt, answer)?;
+    show::text(rt, b",")?;
+    show::decimal(rt, checked.packets)?;
+    show::text(rt, b" packets,")?;
+    show::decimal(rt, checked.unknown)?;
+    show::text(rt, b" unknown, region")?;
+    described(rt, region)?;
+    show::text(rt, b", known")?;
+    described(rt, known)
 }
 
 // A script checked with just what is lent.
 pub fn answer(
+    rt: &impl Print,
     setup: Setup,
     script: &[u8],
     text: &[u8],
     password: &[u8],
     region: &mut [u8],
     known: &mut [u8],
-) {
+) -> io::Result<()> {
     let sum = expected(setup, text, region);
     region::fill(region, BEFORE);
     region::fill(known, BEFORE);
     let checked = checker::check(script, text, password, sum, setup.size, region, known);
-    shown(checked, region, known);
+    shown(rt, checked, region, known)
 }

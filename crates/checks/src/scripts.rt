@@ -1,10 +1,11 @@
 // The script of a line, made step by step over the front of a buffer. Each step says how many bytes
 // there are then; what the buffer has no room for is left out.
-ghost use Rattle.std.specs.Prelude.{◌≤◌, length};
+ghost use Rattle.std.specs.Prelude.{◌≤◌, length, IfOk};
 
 use byte_parts::{behind, part_at};
 use planner::Planned;
 use region::same;
+use std::io;
 use vector_lines::{number_of, packets, show};
 
 #[derive(Drop)]
@@ -54,9 +55,16 @@ fn put_head(held: usize, out: &mut [u8]) -> usize
 }
 
 // The planner's script of a text behind what there is, with the whole password.
-fn put_plan(entry: u32, size: usize, text: &[u8], held: usize, out: &mut [u8]) -> usize
+fn put_plan(
+    rt: &impl Print,
+    entry: u32,
+    size: usize,
+    text: &[u8],
+    held: usize,
+    out: &mut [u8],
+) -> io::Result<usize>
     requires { held ≤ length out.old }
-    ensures { result ≤ length out.new }
+    ensures { IfOk result (λ n. n ≤ length out.new) }
 {
     let secret = vector_lines::secret();
     let room = out.len() - held;
@@ -65,14 +73,14 @@ fn put_plan(entry: u32, size: usize, text: &[u8], held: usize, out: &mut [u8]) -
             refusal: _,
             place: _,
         } => {
-            show::text(b" no plan");
-            held
+            show::text(rt, b" no plan")?;
+            Ok(held)
         }
         Planned::Written(n) => {
             if room < n {
-                return held;
+                return Ok(held);
             }
-            held + n
+            Ok(held + n)
         }
     }
 }
@@ -130,35 +138,48 @@ fn repeat(back: usize, count: usize, held: usize, out: &mut [u8]) -> usize
 }
 
 // A step carried out.
-fn carry_out(words: &[u8], size: usize, text: &[u8], held: usize, out: &mut [u8]) -> usize
+fn carry_out(
+    rt: &impl Print,
+    words: &[u8],
+    size: usize,
+    text: &[u8],
+    held: usize,
+    out: &mut [u8],
+) -> io::Result<usize>
     requires { held ≤ length out.old }
-    ensures { result ≤ length out.new }
+    ensures { IfOk result (λ n. n ≤ length out.new) }
 {
     let name = packets::word_at(words, 0);
     let rest = behind(words, name.len() + 1);
     let number = number_of(rest);
     let more = number_of(behind(rest, number.past + 1));
     match step_of(name) {
-        Step::Head => put_head(held, out),
-        Step::Plan => put_plan(packets::hex_of(rest), size, text, held, out),
-        Step::Cut => lesser(number.value, held),
-        Step::Less => without(number.value, held),
-        Step::At => put_over(rest, held, out),
-        Step::Again => repeat(number.value, more.value, held, out),
-        Step::Bytes => packets::append(words, held, out),
+        Step::Head => Ok(put_head(held, out)),
+        Step::Plan => put_plan(rt, packets::hex_of(rest), size, text, held, out),
+        Step::Cut => Ok(lesser(number.value, held)),
+        Step::Less => Ok(without(number.value, held)),
+        Step::At => Ok(put_over(rest, held, out)),
+        Step::Again => Ok(repeat(number.value, more.value, held, out)),
+        Step::Bytes => packets::append(rt, words, held, out),
     }
 }
 
 // The script that steps make of a text for a size. The answer is its length.
-pub fn script_of(steps: &[u8], size: usize, text: &[u8], out: &mut [u8]) -> usize
-    ensures { result ≤ length out.new }
+pub fn script_of(
+    rt: &impl Print,
+    steps: &[u8],
+    size: usize,
+    text: &[u8],
+    out: &mut [u8],
+) -> io::Result<usize>
+    ensures { IfOk result (λ n. n ≤ length out.new) }
 {
     let mut held = 0;
     let mut at = 0;
     while at < steps.len() {
         let step = part_at(steps, at, b',');
-        held = carry_out(step, size, text, held, out);
+        held = carry_out(rt, step, size, text, held, out)?;
         at = at + step.len() + 2;
     }
-    held
+    Ok(held)
 }

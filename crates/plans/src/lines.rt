@@ -2,6 +2,7 @@
 use crate::answers;
 use crate::answers::Asked;
 use byte_parts::{behind, part_at};
+use std::io;
 use vector_lines::words::text_of;
 use vector_lines::{number_of, show};
 
@@ -34,23 +35,27 @@ fn numbers(words: &[u8], values: &mut [u32; 4]) -> usize {
 }
 
 // Lends as many bytes of password and output as are asked for.
-fn lend(asked: Asked, text: &[u8], out: &mut [u8]) {
+fn lend(rt: &impl Print, asked: Asked, text: &[u8], out: &mut [u8]) -> io::Result<()> {
     let secret = vector_lines::secret();
     let password = asked.password as usize;
     let room = asked.room as usize;
     if secret.len() < password {
-        show::text(b" no such password");
-        return;
+        return show::text(rt, b" no such password");
     }
     if out.len() < room {
-        show::text(b" no such room");
-        return;
+        return show::text(rt, b" no such room");
     }
-    answers::answer(asked, text, &secret[..password], &mut out[..room]);
+    answers::answer(rt, asked, text, &secret[..password], &mut out[..room])
 }
 
 // The answer to numbers and the words of a text.
-fn ask(listed: bool, words: &[u8], text: &mut [u8], out: &mut [u8]) {
+fn ask(
+    rt: &impl Print,
+    listed: bool,
+    words: &[u8],
+    text: &mut [u8],
+    out: &mut [u8],
+) -> io::Result<()> {
     let mut values = [0u32; 4];
     let past = numbers(words, &mut values);
     let n = text_of(behind(words, past), text);
@@ -61,32 +66,33 @@ fn ask(listed: bool, words: &[u8], text: &mut [u8], out: &mut [u8]) {
         password: values[2],
         room: values[3],
     };
-    lend(asked, &text[..n], out);
+    lend(rt, asked, &text[..n], out)
 }
 
 // A label, and the answer to the order behind it if there is one.
-fn line(words: &[u8], text: &mut [u8], out: &mut [u8]) {
-    let case = vector_lines::label(words);
+fn line(rt: &impl Print, words: &[u8], text: &mut [u8], out: &mut [u8]) -> io::Result<()> {
+    let case = vector_lines::label(rt, words)?;
     if case.len() == 0 {
-        return;
+        return Ok(());
     }
     let order = part_at(case, 0, b' ');
     let rest = behind(case, order.len() + 1);
     match order_of(order) {
-        Order::Plan => ask(false, rest, text, out),
-        Order::List => ask(true, rest, text, out),
-        Order::Unknown => show::text(b" no such order"),
+        Order::Plan => ask(rt, false, rest, text, out),
+        Order::List => ask(rt, true, rest, text, out),
+        Order::Unknown => show::text(rt, b" no such order"),
     }
 }
 
-pub fn run(input: &[u8]) {
+pub fn run(rt: &impl Print, input: &[u8]) -> io::Result<()> {
     let mut text = input_rooms::text_room();
     let mut out = input_rooms::text_room();
     let mut at = 0;
     while at < input.len() {
         let next = byte_parts::line_at(input, at);
-        line(next, &mut text, &mut out);
-        show::line_end();
+        line(rt, next, &mut text, &mut out)?;
+        show::line_end(rt)?;
         at = at + next.len() + 1;
     }
+    Ok(())
 }

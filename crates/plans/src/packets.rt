@@ -4,6 +4,7 @@ ghost use Rattle.std.specs.Prelude.{◌-◌, ◌≤◌, length};
 use byte_parts::behind;
 use loader::{Loader, Mode};
 use packet::Command;
+use std::io;
 use vector_lines::show;
 
 // The length of a script's head.
@@ -64,34 +65,34 @@ fn has_address(core: &[u8]) -> bool {
 }
 
 // The address of a core, and how many bytes follow it.
-fn show_core(core: &[u8]) {
+fn show_core(rt: &impl Print, core: &[u8]) -> io::Result<()> {
     if has_address(core) {
-        show::hex(packet::address(core), 4);
-        show::decimal(behind(core, 5).len());
-        return;
+        show::hex(rt, packet::address(core), 4)?;
+        return show::decimal(rt, behind(core, 5).len());
     }
-    show::text(b" -");
-    show::decimal(behind(core, 1).len());
+    show::text(rt, b" -")?;
+    show::decimal(rt, behind(core, 1).len())
 }
 
 // The line of a packet.
-fn show_packet(at: usize, packet: &[u8]) {
+fn show_packet(rt: &impl Print, at: usize, packet: &[u8]) -> io::Result<()> {
     let core = packet::core(packet);
-    show::text(b"\n ");
-    show::decimal(at);
-    show::byte(little_endian::byte_at(core, 0));
-    show_core(core);
-    show::byte(packet::acknowledgement(packet));
+    show::text(rt, b"\n ")?;
+    show::decimal(rt, at)?;
+    show::byte(rt, little_endian::byte_at(core, 0))?;
+    show_core(rt, core)?;
+    show::byte(rt, packet::acknowledgement(packet))
 }
 
 // A line for each of the packets, as many as the framing has.
-pub fn list(script: &[u8], count: usize) {
+pub fn list(rt: &impl Print, script: &[u8], count: usize) -> io::Result<()> {
     let mut at = HEAD;
     for _ in 0..count {
         let packet = packet_at(script, at);
-        show_packet(at, packet);
+        show_packet(rt, at, packet)?;
         at += packet.len();
     }
+    Ok(())
 }
 
 // Sends the packets, as many as the framing has, one by one to a locked loader.

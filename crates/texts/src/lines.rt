@@ -3,6 +3,7 @@ ghost use Rattle.std.specs.Prelude.{◌≤◌, length};
 
 use byte_parts::behind;
 use refusal::Refusal;
+use std::io;
 use text_image::Verdict;
 use vector_lines::{Number, show, words};
 
@@ -10,22 +11,22 @@ use vector_lines::{Number, show, words};
 const BEFORE: u8 = 0xA5;
 
 // A refusal, and whether the region is as it was.
-fn refused(why: Refusal, place: usize, region: &[u8]) {
-    show::text(b" ");
-    show::refused(refusal::number(why), place);
-    show::text(b",");
-    show::kept(byte_parts::every(region, BEFORE));
+fn refused(rt: &impl Print, why: Refusal, place: usize, region: &[u8]) -> io::Result<()> {
+    show::text(rt, b" ")?;
+    show::refused(rt, refusal::number(why), place)?;
+    show::text(rt, b",")?;
+    show::kept(rt, byte_parts::every(region, BEFORE))
 }
 
 // A text read into a region.
-fn read(text: &[u8], size: usize, region: &mut [u8]) {
+fn read(rt: &impl Print, text: &[u8], size: usize, region: &mut [u8]) -> io::Result<()> {
     region::fill(region, BEFORE);
     match ti_txt::read(text, size, region) {
         Verdict::Sound => {
-            show::text(b" filled");
-            show::hex(crc::checksum(crc::START, region) as usize, 4);
+            show::text(rt, b" filled")?;
+            show::hex(rt, crc::checksum(crc::START, region) as usize, 4)
         }
-        Verdict::Refused { refusal, place } => refused(refusal, place, region),
+        Verdict::Refused { refusal, place } => refused(rt, refusal, place, region),
     }
 }
 
@@ -53,36 +54,36 @@ fn length_of(words: &[u8], size: usize) -> Number
 }
 
 // The answer to a size and the words of a text.
-fn answer(case: &[u8], text: &mut [u8], region: &mut [u8]) {
+fn answer(rt: &impl Print, case: &[u8], text: &mut [u8], region: &mut [u8]) -> io::Result<()> {
     let size = vector_lines::number_of(case);
     let rest = behind(case, size.past);
     let length = length_of(rest, size.value);
     let lent = length.value;
     let n = words::text_of(behind(rest, length.past + 1), text);
     if region.len() < lent {
-        show::text(b" no region of that length");
-        return;
+        return show::text(rt, b" no region of that length");
     }
-    read(&text[..n], size.value, &mut region[..lent]);
+    read(rt, &text[..n], size.value, &mut region[..lent])
 }
 
 // A label, and the answer to the size and text behind it if there are any.
-fn line(words: &[u8], text: &mut [u8], region: &mut [u8]) {
-    let case = vector_lines::label(words);
+fn line(rt: &impl Print, words: &[u8], text: &mut [u8], region: &mut [u8]) -> io::Result<()> {
+    let case = vector_lines::label(rt, words)?;
     if case.len() == 0 {
-        return;
+        return Ok(());
     }
-    answer(case, text, region);
+    answer(rt, case, text, region)
 }
 
-pub fn run(input: &[u8]) {
+pub fn run(rt: &impl Print, input: &[u8]) -> io::Result<()> {
     let mut text = input_rooms::text_room();
     let mut region = input_rooms::region_room();
     let mut at = 0;
     while at < input.len() {
         let next = byte_parts::line_at(input, at);
-        line(next, &mut text, &mut region);
-        show::line_end();
+        line(rt, next, &mut text, &mut region)?;
+        show::line_end(rt)?;
         at = at + next.len() + 1;
     }
+    Ok(())
 }

@@ -2,24 +2,28 @@
 // more is read than an input may have, so that a longer one is seen.
 #![tactic(auto)]
 
-use libc::{STDIN_FILENO, STDOUT_FILENO};
+use std::io;
+use std::io::Read;
 use trace_text::Traced;
 
+// How many bytes of the input are read.
+const INPUT: u64 = 16385;
+
 // Writes the first n bytes of a text; it has as many.
-fn show(text: &[u8], n: usize) {
+fn show(rt: &impl Print, text: &[u8], n: usize) -> io::Result<()> {
     if text.len() < n {
-        return;
+        return Ok(());
     }
-    io::write_all(STDOUT_FILENO, &text[..n]);
+    rt.write_all(&text[..n])
 }
 
-fn main() {
-    let mut input = [0u8; 16385];
-    let n = io::read_full(STDIN_FILENO, &mut input);
+fn main(rt: HostRuntime) -> io::Result<()> {
+    let mut input = Vec::new(rt.alloc());
+    rt.reader().take(INPUT).read_to_end(&mut input)?;
     let mut text = [0u8; trace_text::ROOM];
-    match trace_text::write(&input[..n], &mut text) {
+    match trace_text::write(&input, &mut text) {
         // the text has the room
-        Traced::Refused(_) => {}
-        Traced::Written(length) => show(&text, length),
+        Traced::Refused(_) => Ok(()),
+        Traced::Written(length) => show(&rt, &text, length),
     }
 }

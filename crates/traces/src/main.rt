@@ -8,6 +8,7 @@
 
 use byte_parts::behind;
 use region::same;
+use std::io;
 use trace_text::Traced;
 use vector_lines::{packets, show};
 
@@ -15,92 +16,91 @@ use vector_lines::{packets, show};
 const SHOWN: usize = 2048;
 
 // A line of a text before a stroke.
-fn line(words: &[u8]) {
-    show::text(b" ");
-    show::text(words);
-    show::text(b" /");
+fn line(rt: &impl Print, words: &[u8]) -> io::Result<()> {
+    show::text(rt, b" ")?;
+    show::text(rt, words)?;
+    show::text(rt, b" /")
 }
 
 // The lines of a text, behind each other.
-fn lines(text: &[u8]) {
+fn lines(rt: &impl Print, text: &[u8]) -> io::Result<()> {
     let mut at = 0;
     while at < text.len() {
         let next = byte_parts::line_at(text, at);
-        line(next);
+        line(rt, next)?;
         at = at + next.len() + 1;
     }
+    Ok(())
 }
 
 // A text that is too long to be shown: its length and its checksum.
-fn length_only(text: &[u8]) {
-    show::decimal(text.len());
-    show::text(b" bytes");
-    show::hex(crc::checksum(crc::START, text) as usize, 4);
+fn length_only(rt: &impl Print, text: &[u8]) -> io::Result<()> {
+    show::decimal(rt, text.len())?;
+    show::text(rt, b" bytes")?;
+    show::hex(rt, crc::checksum(crc::START, text) as usize, 4)
 }
 
 // A text, whole or by its length.
-fn shown(text: &[u8]) {
+fn shown(rt: &impl Print, text: &[u8]) -> io::Result<()> {
     if SHOWN < text.len() {
-        length_only(text);
-        return;
+        return length_only(rt, text);
     }
-    lines(text);
+    lines(rt, text)
 }
 
 // What was written into a buffer, or that it was refused.
-fn written(answer: Traced, text: &[u8]) {
+fn written(rt: &impl Print, answer: Traced, text: &[u8]) -> io::Result<()> {
     match answer {
         Traced::Refused(why) => {
-            show::text(b" refused");
-            show::decimal(refusal::number(why) as usize);
+            show::text(rt, b" refused")?;
+            show::decimal(rt, refusal::number(why) as usize)
         }
-        Traced::Written(n) => shown(byte_parts::front(text, n)),
+        Traced::Written(n) => shown(rt, byte_parts::front(text, n)),
     }
 }
 
-fn trace(script: &[u8]) {
+fn trace(rt: &impl Print, script: &[u8]) -> io::Result<()> {
     let mut text = [0u8; trace_text::ROOM];
-    written(trace_text::write(script, &mut text), &text);
+    written(rt, trace_text::write(script, &mut text), &text)
 }
 
-fn cuts(script: &[u8]) {
+fn cuts(rt: &impl Print, script: &[u8]) -> io::Result<()> {
     let mut text = [0u8; trace_text::CUTS_ROOM];
-    written(trace_text::write_cuts(script, &mut text), &text);
+    written(rt, trace_text::write_cuts(script, &mut text), &text)
 }
 
 // The answer to an order and a script.
-fn answer(order: &[u8], script: &[u8]) {
+fn answer(rt: &impl Print, order: &[u8], script: &[u8]) -> io::Result<()> {
     if same(order, b"cuts") {
-        cuts(script);
-        return;
+        return cuts(rt, script);
     }
-    trace(script);
+    trace(rt, script)
 }
 
 // A label, and the answer to what stands behind it, if anything does.
-fn answered(words: &[u8], bytes: &mut [u8]) {
-    let case = vector_lines::label(words);
+fn answered(rt: &impl Print, words: &[u8], bytes: &mut [u8]) -> io::Result<()> {
+    let case = vector_lines::label(rt, words)?;
     if case.len() == 0 {
-        return;
+        return Ok(());
     }
     let order = packets::word_at(case, 0);
-    let n = packets::append(behind(case, order.len()), 0, bytes);
-    answer(order, byte_parts::front(bytes, n));
+    let n = packets::append(rt, behind(case, order.len()), 0, bytes)?;
+    answer(rt, order, byte_parts::front(bytes, n))
 }
 
-fn run(input: &[u8]) {
+fn run(rt: &impl Print, input: &[u8]) -> io::Result<()> {
     let mut bytes = [0u8; 16400];
     let mut at = 0;
     while at < input.len() {
         let next = byte_parts::line_at(input, at);
         at = at + next.len() + 1;
-        answered(next, &mut bytes);
-        show::line_end();
+        answered(rt, next, &mut bytes)?;
+        show::line_end(rt)?;
     }
+    Ok(())
 }
 
-fn main() {
-    let mut input = io::large_buffer();
-    let n = io::read_full(libc::STDIN_FILENO, &mut input);
-    run(&input[..n]);
+fn main(rt: HostRuntime) -> io::Result<()> {
+    let input = vector_lines::input(&rt)?;
+    run(&rt, &input)
 }

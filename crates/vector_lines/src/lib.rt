@@ -1,4 +1,4 @@
-// What the programs have in common: lines and their labels found, numbers and bytes read from
+// What the programs have in common: the input read, lines and their labels found, numbers and bytes read from
 // words, the text that words stand for (`words`), bytes and packets (`packets`), numbers asked for by
 // arguments, a password, and answers printed (`show`). None
 // of these functions asks anything of its input.
@@ -12,12 +12,25 @@ ghost use Rattle.std.specs.Prelude.{◌≡◌, ◌<◌, ◌≤◌, length};
 
 use byte_parts::{behind, find};
 use firmware_text::digit_of;
+use std::io;
+use std::io::Read;
+use std::rt::Env;
+
+// How many bytes of the input are read.
+const INPUT: u64 = 65536;
 
 // A decimal number, and the place behind its digits.
 #[derive(Drop)]
 pub struct Number {
     pub value: usize,
     pub past: usize,
+}
+
+// The bytes of the standard input, the first 65,536 if it has more.
+pub fn input(rt: &(impl Input + AllocGlobal)) -> io::Result<Vec<u8>> {
+    let mut bytes = Vec::new(rt.alloc());
+    rt.reader().take(INPUT).read_to_end(&mut bytes)?;
+    Ok(bytes)
 }
 
 // The bytes 0, 1, 2 .. 255, 0, 1 .. of which a password is lent.
@@ -33,15 +46,15 @@ pub fn secret() -> [u8; 300]
 
 // Prints the label of a line, and hands back what stands behind its colon and a space. A line
 // without these is a heading, and nothing stands behind it.
-pub fn label(line: &[u8]) -> &[u8] {
+pub fn label<'a>(rt: &impl Print, line: &'a [u8]) -> io::Result<&'a [u8]> {
     let colon = find(line, b':');
-    show::text(&line[..colon]);
+    show::text(rt, &line[..colon])?;
     let rest = behind(line, colon);
     let words = behind(rest, 2);
     if 0 < words.len() {
-        show::text(b":");
+        show::text(rt, b":")?;
     }
-    words
+    Ok(words)
 }
 
 // The decimal number that words begin with, 0 if none. It ends before its value would need more
@@ -66,9 +79,9 @@ pub fn number_of(words: &[u8]) -> Number
 }
 
 // The decimal number that an argument of the program is, or another where it is none.
-pub fn asked(argument: usize, otherwise: usize) -> usize {
+pub fn asked(rt: &impl Env, argument: usize, otherwise: usize) -> usize {
     let mut words = [0u8; 20];
-    let n = os::arg(argument, &mut words);
+    let n = rt.arg(argument, &mut words).unwrap_or(0);
     let number = number_of(&words[..n]);
     if n == 0 {
         return otherwise;

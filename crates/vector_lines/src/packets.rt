@@ -1,11 +1,12 @@
 // The bytes that the words of a line stand for: two hexadecimal digits are a byte, `256*ff` is a byte so
 // many times, `00..ff` the bytes from one to another, `@1f780` the four bytes of an address, low byte
 // first; words in brackets are a core, which stands for the packet around it.
-ghost use Rattle.std.specs.Prelude.{◌-◌, ◌≤◌, length};
+ghost use Rattle.std.specs.Prelude.{◌-◌, ◌≤◌, length, IfOk};
 
 use crate::{number_of, show};
 use byte_parts::{behind, find, part_at};
 use firmware_text::digit_of;
+use std::io;
 
 // Bytes behind each other: the first, by how much each next one is greater, and how many there are.
 #[derive(Drop)]
@@ -145,33 +146,33 @@ fn append_plain(words: &[u8], held: usize, out: &mut [u8]) -> usize
 }
 
 // Puts the packet around the core that words stand for behind the first n bytes of a buffer.
-fn append_packet(words: &[u8], held: usize, out: &mut [u8]) -> usize
+fn append_packet(rt: &impl Print, words: &[u8], held: usize, out: &mut [u8]) -> io::Result<usize>
     requires { held ≤ length out.old }
-    ensures { result ≤ length out.new }
+    ensures { IfOk result (λ n. n ≤ length out.new) }
 {
     if words.len() == 0 {
-        return held;
+        return Ok(held);
     }
     let mut core = [0u8; 300];
     let n = append_plain(words, 0, &mut core);
     let end = held + n + 5;
     if out.len() < end {
-        show::text(b" no room for the packet");
-        return held;
+        show::text(rt, b" no room for the packet")?;
+        return Ok(held);
     }
     if !packet::write(&core[..n], &mut out[held..end]) {
-        show::text(b" no packet around this core");
-        return held;
+        show::text(rt, b" no packet around this core")?;
+        return Ok(held);
     }
-    end
+    Ok(end)
 }
 
 // Puts the bytes that words stand for behind the first n of a buffer, and answers how many it has then.
-pub fn append(words: &[u8], held: usize, out: &mut [u8]) -> usize
-    ensures { result ≤ length out.new }
+pub fn append(rt: &impl Print, words: &[u8], held: usize, out: &mut [u8]) -> io::Result<usize>
+    ensures { IfOk result (λ n. n ≤ length out.new) }
 {
     if out.len() < held {
-        return out.len();
+        return Ok(out.len());
     }
     let mut n = held;
     let mut at = 0;
@@ -181,8 +182,8 @@ pub fn append(words: &[u8], held: usize, out: &mut [u8]) -> usize
         n = append_plain(&rest[..open], n, out);
         let inside = behind(rest, open + 1);
         let close = find(inside, b')');
-        n = append_packet(&inside[..close], n, out);
+        n = append_packet(rt, &inside[..close], n, out)?;
         at = at + open + close + 2;
     }
-    n
+    Ok(n)
 }

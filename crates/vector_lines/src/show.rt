@@ -1,57 +1,57 @@
-// Answers printed to standard output.
-use libc::STDOUT_FILENO;
+// Answers printed to standard output. A write that fails ends what is printed, and its error is handed on.
+use std::io;
 
-pub fn text(words: &[u8]) {
-    io::write_all(STDOUT_FILENO, words);
+pub fn text(rt: &impl Print, words: &[u8]) -> io::Result<()> {
+    rt.write_all(words)
 }
 
-pub fn line_end() {
-    text(b"\n");
+pub fn line_end(rt: &impl Print) -> io::Result<()> {
+    text(rt, b"\n")
 }
 
 // A number behind a space.
-pub fn decimal(n: usize) {
-    text(b" ");
-    io::print_decimal(STDOUT_FILENO, n as u64);
+pub fn decimal(rt: &impl Print, n: usize) -> io::Result<()> {
+    print!(rt; " {n}")
 }
 
-// A number in at least so many hexadecimal digits, behind a space.
-pub fn hex(n: usize, digits: usize) {
-    text(b" ");
-    io::print_hex(STDOUT_FILENO, n as u64, digits);
+// A number in at least so many hexadecimal digits, at most 16, behind a space.
+pub fn hex(rt: &impl Print, n: usize, digits: usize) -> io::Result<()> {
+    let width = digits.min(16);
+    print!(rt; " {n:0width$x}")
 }
 
 // A byte behind a space.
-pub fn byte(b: u8) {
-    hex(b as usize, 2);
+pub fn byte(rt: &impl Print, b: u8) -> io::Result<()> {
+    hex(rt, b as usize, 2)
 }
 
-pub fn bytes(list: &[u8]) {
+pub fn bytes(rt: &impl Print, list: &[u8]) -> io::Result<()> {
     for i in 0..list.len() {
-        byte(list[i]);
+        byte(rt, list[i])?;
     }
+    Ok(())
 }
 
-pub fn numbers(list: &[u64]) {
+pub fn numbers(rt: &impl Print, list: &[u64]) -> io::Result<()> {
     for i in 0..list.len() {
-        text(b" ");
-        io::print_decimal(STDOUT_FILENO, list[i]);
+        let n = list[i];
+        print!(rt; " {n}")?;
     }
+    Ok(())
 }
 
 // The number of a refusal and its place.
-pub fn refused(number: u8, place: usize) {
-    text(b"refused");
-    decimal(number as usize);
-    text(b" at");
-    decimal(place);
+pub fn refused(rt: &impl Print, number: u8, place: usize) -> io::Result<()> {
+    text(rt, b"refused")?;
+    decimal(rt, number as usize)?;
+    text(rt, b" at")?;
+    decimal(rt, place)
 }
 
 // Whether lent bytes are as they were.
-pub fn kept(same: bool) {
+pub fn kept(rt: &impl Print, same: bool) -> io::Result<()> {
     if same {
-        text(b" kept");
-        return;
+        return text(rt, b" kept");
     }
-    text(b" touched");
+    text(rt, b" touched")
 }

@@ -18,9 +18,10 @@ mod lines;
 mod packets;
 mod records;
 
-fn main() {
-    let mut input = io::large_buffer();
-    let n = io::read_full(libc::STDIN_FILENO, &mut input);
-    lines::run(&input[..n]);
-    packets::run();
+use std::io;
+
+fn main(rt: HostRuntime) -> io::Result<()> {
+    let input = vector_lines::input(&rt)?;
+    lines::run(&rt, &input)?;
+    packets::run(&rt)
 }

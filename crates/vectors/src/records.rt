@@ -1,140 +1,161 @@
 // The sensor record, temperatures and total power.
-use libc::STDOUT_FILENO;
 use refusal::Refusal;
 use sensor_record::{ReadRecord, WroteRecord};
 use sensor_values::{
     BoardSensors, BoardStatus, Device, DeviceStatus, ErrorCounters, FlashControl, InputSensor,
     ModuleStatus, NetworkModule, SecurityStatus, SensorRecord,
 };
+use std::io;
 use vector_lines::show;
 
 // A temperature behind a space.
-fn degrees(t: i8) {
+fn degrees(rt: &impl Print, t: i8) -> io::Result<()> {
     let b = temperature::to_byte(t);
     if 0 <= t {
-        show::decimal(b as usize);
-        return;
+        return show::decimal(rt, b as usize);
     }
-    show::text(b" -");
-    io::print_decimal(STDOUT_FILENO, 256 - b as u64);
+    show::text(rt, b" -")?;
+    print!(rt; "{}", 256 - b as u64)
 }
 
 // The temperatures that bytes carry.
-pub fn temperatures(bytes: &[u8]) {
+pub fn temperatures(rt: &impl Print, bytes: &[u8]) -> io::Result<()> {
     for i in 0..bytes.len() {
-        degrees(temperature::from_byte(bytes[i]));
+        degrees(rt, temperature::from_byte(bytes[i]))?;
     }
+    Ok(())
 }
 
 // The greater of two temperatures.
-pub fn greater(bytes: &[u8]) {
+pub fn greater(rt: &impl Print, bytes: &[u8]) -> io::Result<()> {
     let first = temperature::from_byte(little_endian::byte_at(bytes, 0));
     let second = temperature::from_byte(little_endian::byte_at(bytes, 1));
-    degrees(temperature::from_byte(temperature::greater_byte(first, second)));
+    degrees(
+        rt,
+        temperature::from_byte(temperature::greater_byte(first, second)),
+    )
 }
 
 // Total power from raw volts and raw amps.
-pub fn power(bytes: &[u8]) {
+pub fn power(rt: &impl Print, bytes: &[u8]) -> io::Result<()> {
     let volts = little_endian::two_at(bytes, 0);
     let amps = little_endian::two_at(bytes, 2);
-    show::decimal(sensor_record::total_power(volts, amps) as usize);
-    show::text(b" W");
+    show::decimal(rt, sensor_record::total_power(volts, amps) as usize)?;
+    show::text(rt, b" W")
 }
 
-fn refused(why: Refusal) {
-    show::text(b" refused");
-    show::decimal(refusal::number(why) as usize);
+fn refused(rt: &impl Print, why: Refusal) -> io::Result<()> {
+    show::text(rt, b" refused")?;
+    show::decimal(rt, refusal::number(why) as usize)
 }
 
-fn status(s: BoardStatus) {
-    show::text(b" status");
-    show::numbers(&[
-        s.tcrit as u64,
-        s.power_good as u64,
-        s.twarn as u64,
-        s.hbm_cattrip as u64,
-        s.module0_present as u64,
-        s.module1_present as u64,
-        s.aux_cable as u64,
-        s.flash_writes as u64,
-    ]);
+fn status(rt: &impl Print, s: BoardStatus) -> io::Result<()> {
+    show::text(rt, b" status")?;
+    show::numbers(
+        rt,
+        &[
+            s.tcrit as u64,
+            s.power_good as u64,
+            s.twarn as u64,
+            s.hbm_cattrip as u64,
+            s.module0_present as u64,
+            s.module1_present as u64,
+            s.aux_cable as u64,
+            s.flash_writes as u64,
+        ],
+    )
 }
 
-fn security(s: SecurityStatus) {
+fn security(rt: &impl Print, s: SecurityStatus) -> io::Result<()> {
     let one = s.flash1;
     let two = s.flash2;
-    show::text(b", security");
-    show::numbers(&[
-        s.spi_device as u64,
-        one.recovery as u64,
-        one.mode as u64,
-        one.write_enable as u64,
-        two.recovery as u64,
-        two.mode as u64,
-        two.write_enable as u64,
-        s.authentication as u64,
-        s.jtag as u64,
-    ]);
+    show::text(rt, b", security")?;
+    show::numbers(
+        rt,
+        &[
+            s.spi_device as u64,
+            one.recovery as u64,
+            one.mode as u64,
+            one.write_enable as u64,
+            two.recovery as u64,
+            two.mode as u64,
+            two.write_enable as u64,
+            s.authentication as u64,
+            s.jtag as u64,
+        ],
+    )
 }
 
-fn sensors(s: BoardSensors) {
+fn sensors(rt: &impl Print, s: BoardSensors) -> io::Result<()> {
     let low = s.input_3v3;
     let main = s.input_12v;
     let aux = s.input_aux;
-    show::text(b", sensors");
-    degrees(s.inlet);
-    degrees(s.outlet);
-    show::numbers(&[
-        low.current as u64,
-        low.voltage as u64,
-        main.current as u64,
-        main.voltage as u64,
-        aux.current as u64,
-        aux.voltage as u64,
-        s.total_power as u64,
-    ]);
+    show::text(rt, b", sensors")?;
+    degrees(rt, s.inlet)?;
+    degrees(rt, s.outlet)?;
+    show::numbers(
+        rt,
+        &[
+            low.current as u64,
+            low.voltage as u64,
+            main.current as u64,
+            main.voltage as u64,
+            aux.current as u64,
+            aux.voltage as u64,
+            s.total_power as u64,
+        ],
+    )
 }
 
-fn device(d: Device) {
+fn device(rt: &impl Print, d: Device) -> io::Result<()> {
     let s = d.status;
     let e = d.errors;
-    show::text(b", device");
-    show::numbers(&[
-        s.done as u64,
-        s.init_b as u64,
-        s.error_out as u64,
-        s.error_status as u64,
-        s.keep_alive as u64,
-    ]);
-    degrees(d.fpga_temperature);
-    degrees(d.hbm_temperature);
-    show::numbers(&[
-        e.ddr_uncorrectable as u64,
-        e.ddr_correctable as u64,
-        e.pcie_uncorrectable as u64,
-        e.pcie_correctable as u64,
-    ]);
+    show::text(rt, b", device")?;
+    show::numbers(
+        rt,
+        &[
+            s.done as u64,
+            s.init_b as u64,
+            s.error_out as u64,
+            s.error_status as u64,
+            s.keep_alive as u64,
+        ],
+    )?;
+    degrees(rt, d.fpga_temperature)?;
+    degrees(rt, d.hbm_temperature)?;
+    show::numbers(
+        rt,
+        &[
+            e.ddr_uncorrectable as u64,
+            e.ddr_correctable as u64,
+            e.pcie_uncorrectable as u64,
+            e.pcie_correctable as u64,
+        ],
+    )
 }
 
-fn module(m: NetworkModule) {
+fn module(rt: &impl Print, m: NetworkModule) -> io::Result<()> {
     let s = m.status;
-    show::text(b", module");
-    degrees(m.temperature);
-    show::numbers(&[
-        s.present as u64,
-        s.interrupt as u64,
-        s.low_power as u64,
-        s.rate_select as u64,
-        s.rx_loss as u64,
-        s.tx_disable as u64,
-        s.tx_fault as u64,
-        s.power_enable as u64,
-        s.over_current as u64,
-    ]);
+    show::text(rt, b", module")?;
+    degrees(rt, m.temperature)?;
+    show::numbers(
+        rt,
+        &[
+            s.present as u64,
+            s.interrupt as u64,
+            s.low_power as u64,
+            s.rate_select as u64,
+            s.rx_loss as u64,
+            s.tx_disable as u64,
+            s.tx_fault as u64,
+            s.power_enable as u64,
+            s.over_current as u64,
+        ],
+    )
 }
 
 // The values of a record, each group's in the order of its bits.
-fn values(r: SensorRecord) {
+fn values(rt: &impl Print, r: SensorRecord) -> io::Result<()> {
     let board = r.status;
     let access = r.security;
     let readings = r.sensors;
@@ -142,20 +163,20 @@ fn values(r: SensorRecord) {
     let two = r.device2;
     let lower = r.module0;
     let upper = r.module1;
-    status(board);
-    security(access);
-    sensors(readings);
-    device(one);
-    device(two);
-    module(lower);
-    module(upper);
+    status(rt, board)?;
+    security(rt, access)?;
+    sensors(rt, readings)?;
+    device(rt, one)?;
+    device(rt, two)?;
+    module(rt, lower)?;
+    module(rt, upper)
 }
 
 // A record read.
-pub fn read(bytes: &[u8]) {
+pub fn read(rt: &impl Print, bytes: &[u8]) -> io::Result<()> {
     match sensor_record::read(bytes) {
-        ReadRecord::Refused(why) => refused(why),
-        ReadRecord::Held(held) => values(held),
+        ReadRecord::Refused(why) => refused(rt, why),
+        ReadRecord::Held(held) => values(rt, held),
     }
 }
 
@@ -273,29 +294,27 @@ fn made(v: [u8; 28]) -> SensorRecord {
 }
 
 // A record written over bytes ee, and the output then.
-fn write_over(values: SensorRecord, out: &mut [u8]) {
+fn write_over(rt: &impl Print, values: SensorRecord, out: &mut [u8]) -> io::Result<()> {
     match sensor_record::write(values, out) {
-        WroteRecord::Refused(why) => refused(why),
-        WroteRecord::Written => show::text(b" written"),
+        WroteRecord::Refused(why) => refused(rt, why)?,
+        WroteRecord::Written => show::text(rt, b" written")?,
     }
     if byte_parts::every(out, 0xEE) {
-        show::text(b", output as it was");
-        return;
+        return show::text(rt, b", output as it was");
     }
-    show::bytes(out);
+    show::bytes(rt, out)
 }
 
 // Values written over so many bytes ee as the list's first number says, at most 72.
-pub fn write(bytes: &[u8]) {
+pub fn write(rt: &impl Print, bytes: &[u8]) -> io::Result<()> {
     let mut v = [0u8; 28];
     little_endian::store(bytes, 0, &mut v);
     let mut out = [0xEEu8; 72];
     let n = little_endian::byte_at(bytes, 0) as usize;
     if 72 < n {
-        show::text(b" no output of that length");
-        return;
+        return show::text(rt, b" no output of that length");
     }
-    write_over(made(v), &mut out[..n]);
+    write_over(rt, made(v), &mut out[..n])
 }
 
 // Whether values are written as the bytes that they were read from.
@@ -320,37 +339,38 @@ fn taken(base: [u8; 64], at: usize, bit: u8) -> bool {
     }
 }
 
-fn mark(base: [u8; 64], at: usize, bit: u8) {
+fn mark(rt: &impl Print, base: [u8; 64], at: usize, bit: u8) -> io::Result<()> {
     if taken(base, at, bit) {
-        show::text(b".");
-        return;
+        return show::text(rt, b".");
     }
-    show::text(b"x");
+    show::text(rt, b"x")
 }
 
 // The bits of a byte, the highest first.
-fn byte_map(base: [u8; 64], at: usize) {
-    show::text(b" ");
+fn byte_map(rt: &impl Print, base: [u8; 64], at: usize) -> io::Result<()> {
+    show::text(rt, b" ")?;
     for i in 0..8u8 {
-        mark(base, at, 7 - i);
+        mark(rt, base, at, 7 - i)?;
     }
+    Ok(())
 }
 
 // The bits of a field at an offset, of so many bytes, the highest first.
-fn field_map(base: [u8; 64], bytes: &[u8]) {
+fn field_map(rt: &impl Print, base: [u8; 64], bytes: &[u8]) -> io::Result<()> {
     let at = little_endian::byte_at(bytes, 0) as usize;
     let mut left = little_endian::byte_at(bytes, 1) as usize;
     while 0 < left {
         left -= 1;
-        byte_map(base, at + left);
+        byte_map(rt, base, at + left)?;
     }
+    Ok(())
 }
 
 // Each bit of a field set in the record that follows offset and length, or in zeros if none follows.
-pub fn bit_map(bytes: &[u8]) {
+pub fn bit_map(rt: &impl Print, bytes: &[u8]) -> io::Result<()> {
     let mut base = [0u8; 64];
     if 2 < bytes.len() {
         little_endian::store(&bytes[2..], 0, &mut base);
     }
-    field_map(base, bytes);
+    field_map(rt, base, bytes)
 }
