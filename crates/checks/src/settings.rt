@@ -3,7 +3,7 @@ use region::same;
 use vector_lines::{number_of, packets};
 
 // How a script is checked.
-#[derive(Drop)]
+#[derive(Clone, Copy)]
 pub struct Setup {
     // document 01's N
     pub size: usize,
