@@ -8,7 +8,7 @@ use sensor_values::{BoardStatus, SensorRecord};
 use vector_lines::{number_of, packets};
 
 // A card, and how it is called.
-#[derive(Drop)]
+#[derive(Clone, Copy)]
 pub struct Setup {
     pub card: Card,
     // Document 01's N.
