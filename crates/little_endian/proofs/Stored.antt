@@ -2,14 +2,14 @@
 -- Assumes nothing.
 use mathlib.Core.Path.{◌≡◌, refl, sym, ap, ap₂, ◌∙◌}
 use mathlib.Core.Bool.{Bool, true, false, ◌&&◌}
-use mathlib.Core.List.{List, [], ◌∷◌, ◌++◌, append_assoc}
+use mathlib.Core.List.{List, [], ◌∷◌, ◌++◌, append-nil, append_assoc}
 use Prim.Native.Nat.{ℕ, ◌+◌, ◌-◌, ◌≤◌, ◌<◌}
 use native.Mathlib.Nat.{add_assoc, add-zero}
 use native.Mathlib.Omega.{arith}
 use borrow.Author.Tests.{le-leb, lt-leb, leb-true, leb-false, ltb-false}
 use lib.Dec.{leb, ltb}
-use lib.ListN.{length, get_or, take, drop, length-append, length-drop, take-append-drop, get_or-append}
-use lib.Seq.{take_at, drop_at, drop-drop, drop-append-add, length-take-le, get_or-take, get_or-drop, get_or-append-add}
+use lib.ListN.{length, get_or, take, drop, length-append, length-drop, drop_of_length-le, take-append-drop, get_or-append}
+use lib.Seq.{take_all, take_at, drop_at, take-length, drop-drop, drop-append-add, length-take-le, get_or-take, get_or-drop, get_or-append-add}
 use Rattle.little_endian.specs.Bytes.{stored_at, PutBehind, joined}
 
 module _ (at : ℕ) (new old : List ℕ) (fits : at + length new ≤ length old) where
@@ -18,9 +18,17 @@ module _ (at : ℕ) (new old : List ℕ) (fits : at + length new ≤ length old)
   unfolding stored_at
   stored-between = rw (le-leb (at + length new) (length old) fits)
 
-  -- the part that the new bytes take, lent to a copier and come back
-  pub part-copied : take at old ++ (new ++ drop (at + length new - at) (drop at old)) ≡ stored_at at new old
+  -- the part from a place on, lent to a copier and come back
+  pub part-copied : take at old ++ ((take (length new) new ++ drop (length new) (take (length old - at) (drop at old))) ++ drop (length old - at) (drop at old))
+      ≡ stored_at at new old
   part-copied =
+      let lent : take (length old - at) (drop at old) ≡ drop at old = take_all (length old - at) (drop at old) (rw length-drop (omega arith)) in
+      let past : drop (length old - at) (drop at old) ≡ [] = drop_of_length-le (drop at old) {i = length old - at} (rw length-drop (omega arith)) in
+      rw (past, lent, take-length, drop-drop, append-nil) (sym stored-between)
+
+  -- the part that as many new bytes take, lent to a copier and come back
+  pub part-filled : take at old ++ (new ++ drop (at + length new - at) (drop at old)) ≡ stored_at at new old
+  part-filled =
       let part : at + length new - at ≡ length new = omega arith in
       rw (part, drop-drop) (sym stored-between)
 

@@ -5,7 +5,7 @@ use mathlib.Core.List.{List, ◌++◌}
 use Prim.Native.Nat.{ℕ, ◌+◌, ◌-◌}
 use native.Mathlib.Omega.{arith}
 use lib.ListN.{length, take, drop}
-use Rattle.little_endian.proofs.Stored.{part-copied, stored-not}
+use Rattle.little_endian.proofs.Stored.{part-filled, stored-not}
 use Rattle.little_endian.proofs.store.Goals as goal
 
 pub returns-then-out-at : goal.returns-then-out-at
@@ -20,4 +20,4 @@ pub returns : goal.returns
 returns c = let a = c.args in
     let out = a.out.now in
     ap (λ (l : List ℕ). take a.at out ++ (l ++ drop (a.at + length a.new.now - a.at) (drop a.at out))) c.copy_from_slice.ensures.after
-    ∙ part-copied a.at a.new.now out (omega arith)
+    ∙ part-filled a.at a.new.now out (omega arith)
