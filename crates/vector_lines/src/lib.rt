@@ -20,7 +20,7 @@ use std::rt::Env;
 const INPUT: u64 = 65536;
 
 // A decimal number, and the place behind its digits.
-#[derive(Drop)]
+#[derive(Clone, Copy)]
 pub struct Number {
     pub value: usize,
     pub past: usize,

@@ -9,7 +9,7 @@ use firmware_text::digit_of;
 use std::io;
 
 // Bytes behind each other: the first, by how much each next one is greater, and how many there are.
-#[derive(Drop)]
+#[derive(Clone, Copy)]
 struct Run {
     first: u8,
     step: u8,

@@ -7,7 +7,7 @@ use crate::number_of;
 use byte_parts::{behind, part_at};
 
 // A byte, and the place behind what stands for it.
-#[derive(Drop)]
+#[derive(Clone, Copy)]
 struct Meant {
     byte: u8,
     past: usize,
