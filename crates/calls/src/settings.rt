@@ -20,14 +20,14 @@ pub struct Setup {
 }
 
 // What a line's settings make of a setup, and the place behind them.
-#[derive(Drop)]
+#[derive(Clone, Copy)]
 pub struct Asked {
     pub setup: Setup,
     pub past: usize,
 }
 
 // The orders of lines.
-#[derive(Drop)]
+#[derive(Clone, Copy)]
 pub enum Order {
     Call,
     Key,

@@ -8,7 +8,7 @@ use region::same;
 use std::io;
 use vector_lines::{number_of, packets, show};
 
-#[derive(Drop)]
+#[derive(Clone, Copy)]
 enum Step {
     Head,
     Plan,

@@ -14,7 +14,7 @@ const BEFORE: u8 = 0xA5;
 const OLD: u8 = 0x5A;
 
 // What a line asks for.
-#[derive(Drop)]
+#[derive(Clone, Copy)]
 pub struct Asked {
     // whether the packets are listed
     pub listed: bool,

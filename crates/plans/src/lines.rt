@@ -6,7 +6,7 @@ use std::io;
 use vector_lines::words::text_of;
 use vector_lines::{number_of, show};
 
-#[derive(Drop)]
+#[derive(Clone, Copy)]
 enum Order {
     Plan,
     List,

@@ -11,7 +11,7 @@ use vector_lines::show;
 const HEAD: usize = 5;
 
 // What the framing makes of bytes: so many packets behind a head, or no script.
-#[derive(Drop)]
+#[derive(Clone, Copy)]
 pub enum Framed {
     Packets(usize),
     // The head is not right, or the bytes end inside a packet.
@@ -19,7 +19,7 @@ pub enum Framed {
 }
 
 // What became of the packets that were sent.
-#[derive(Drop)]
+#[derive(Clone, Copy)]
 pub struct Sent {
     pub succeeded: usize,
     pub mode: Mode,

@@ -1,4 +1,4 @@
-// Answers printed to standard output. A write that fails ends what is printed, and its error is handed on.
+// Answers printed to standard output. The error of a write that fails is handed on.
 use std::io;
 
 pub fn text(rt: &impl Print, words: &[u8]) -> io::Result<()> {
@@ -14,7 +14,7 @@ pub fn decimal(rt: &impl Print, n: usize) -> io::Result<()> {
     print!(rt; " {n}")
 }
 
-// A number in at least so many hexadecimal digits, at most 16, behind a space.
+// A number in hexadecimal digits behind a space, with zeros in front up to so many digits, and to 16 at most.
 pub fn hex(rt: &impl Print, n: usize, digits: usize) -> io::Result<()> {
     let width = digits.min(16);
     print!(rt; " {n:0width$x}")
