@@ -7,6 +7,7 @@ use byte_parts::front;
 use little_endian::byte_at;
 use std::fmt::Write;
 use std::rt::HostRuntime;
+use std::str;
 use std::{fmt, io, process};
 
 // The most bytes of a line.
@@ -145,6 +146,13 @@ impl Line {
             .text(digits.words())
     }
 
+    // The line with the reason of a failed call behind it, in the system's words without its number.
+    pub fn reason(self, why: &io::Error) -> Line {
+        let mut whole = Line::new();
+        let _ = write!(whole, "{why}");
+        self.text(before_number(whole.words()))
+    }
+
     // What the line holds.
     pub fn words(&self) -> &[u8] {
         front(&self.bytes, self.held)
@@ -175,6 +183,17 @@ fn hex_digits(n: usize) -> Line {
     let mut digits = Line::new();
     let _ = write!(digits, "{n:x}");
     digits
+}
+
+// The words of a reason before the number that std writes behind those of the system.
+fn before_number(words: &[u8]) -> &[u8] {
+    match str::from_utf8(words) {
+        Ok(text) => match text.rsplit_once(" (os error ") {
+            Some((reason, _)) => reason.as_bytes(),
+            None => words,
+        },
+        Err(_) => words,
+    }
 }
 
 // Whether a byte makes a control character together with 0xc2 before it.

@@ -11,7 +11,7 @@ use std::rt::Files;
 use std::{fs, io, str};
 
 // A file by its device and its number there, whatever its names are.
-#[derive(Drop)]
+#[derive(Clone, Copy)]
 pub struct File {
     pub device: u64,
     pub number: u64,
