@@ -13,6 +13,7 @@ use commands::Option;
 use report::{Line, System};
 use std::env::FillError;
 use std::rt::Env;
+use std::str;
 use tool_paths::PATH_MAX;
 
 // A name among the arguments: the argument, 0 for none, and the place in it where the name begins.
@@ -94,6 +95,23 @@ pub fn put_name(rt: &impl Env, name: Name, room: &mut [u8]) -> usize {
     let part = behind(&word[..n], name.from);
     little_endian::store(part, 0, room);
     part.len()
+}
+
+// Puts at the start of a room the path of a link to the file of a name, which the launcher lends where the name, or one to
+// which it leads, is not UTF-8, as a path has to be. The answer is its length, 0 where none is lent.
+pub fn put_link(rt: &impl Env, name: Name, room: &mut [u8]) -> usize {
+    let variable = Line::new()
+        .text(b"CARDTOOL_LINK_")
+        .decimal(name.argument)
+        .text(b"_")
+        .decimal(name.from);
+    let Ok(words) = str::from_utf8(variable.words()) else {
+        return 0;
+    };
+    match rt.var(words, room) {
+        Ok(n) => n,
+        Err(_) => 0,
+    }
 }
 
 fn defaults() -> Options {

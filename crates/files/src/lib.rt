@@ -100,15 +100,26 @@ fn read_all(rt: &impl Files, path: &[u8], room: &mut [u8]) -> io::Result<usize> 
     Ok(held)
 }
 
+// Puts the path at which the file of a name is found at the start of a room: that of a link which is lent, or the name. The
+// answer is its length, 0 where there is none.
+fn put_path(rt: &impl Env, name: Name, room: &mut [u8]) -> usize {
+    let n = arguments::put_link(rt, name, room);
+    if n != 0 {
+        return n;
+    }
+    arguments::put_name(rt, name, room)
+}
+
 // Reads the file of a name. A room with one byte more than is wanted shows that a file is too long.
 pub fn read(rt: &(impl System + Env + Files), name: Name, room: &mut [u8]) -> Reading {
     let mut word = [0u8; PATH_MAX];
     let n = arguments::put_name(rt, name, &mut word);
-    let path = front(&word, n);
-    match read_all(rt, path, room) {
+    let mut path = [0u8; PATH_MAX];
+    let m = put_path(rt, name, &mut path);
+    match read_all(rt, front(&path, m), room) {
         Ok(held) => Reading::Held(held),
         Err(why) => {
-            failed(rt, path, why);
+            failed(rt, front(&word, n), why);
             Reading::Failed
         }
     }
@@ -138,7 +149,12 @@ pub fn save(
         complain(rt, b"an empty name", b": no file has it");
         return false;
     }
-    if !standing::is_free(rt, path, rule) {
+    let mut link = [0u8; PATH_MAX];
+    let m = arguments::put_link(rt, to, &mut link);
+    if m != 0 {
+        return new::put_beside(rt, path, front(&link, m), bytes, rule);
+    }
+    if !standing::is_free(rt, path, path, rule) {
         return false;
     }
     new::put_in_place(rt, path, bytes, rule)

@@ -135,20 +135,36 @@ fn remove(rt: &impl Files, name: &[u8]) {
     }
 }
 
-// Makes a new file with bytes, by a name at whose end random letters are put; or leaves none.
-fn make(rt: &(impl Files + RandomSource), bytes: &[u8], name: &mut [u8]) -> io::Result<()> {
-    let mut file = create_random(rt, name)?;
-    let filled = fill(&mut file, bytes);
+// Puts bytes into a new file that has a name, or removes it.
+fn fill_or_remove<R: Files>(
+    rt: &R,
+    file: &mut R::File,
+    bytes: &[u8],
+    name: &[u8],
+) -> io::Result<()> {
+    let filled = fill(file, bytes);
     if filled.is_err() {
         remove(rt, name);
     }
     filled
 }
 
+// Makes a new file with bytes, by a name at whose end random letters are put; or leaves none.
+fn make(rt: &(impl Files + RandomSource), bytes: &[u8], name: &mut [u8]) -> io::Result<()> {
+    let mut file = create_random(rt, name)?;
+    fill_or_remove(rt, &mut file, bytes, name)
+}
+
+// Makes a new file with bytes by a name; or leaves none.
+fn make_named(rt: &impl Files, bytes: &[u8], name: &[u8]) -> io::Result<()> {
+    let mut file = create(rt, name)?;
+    fill_or_remove(rt, &mut file, bytes, name)
+}
+
 // Gives a new file the name of a place, or removes it. The place is looked at again, as writing takes its time, in which
 // another file may have come there. The answer is whether it has the name; where not, that is said.
 fn take_place(rt: &(impl System + Env + Files), name: &[u8], place: &[u8], rule: Rule) -> bool {
-    if !is_free(rt, place, rule) {
+    if !is_free(rt, place, place, rule) {
         remove(rt, name);
         return false;
     }
@@ -211,8 +227,39 @@ pub fn put_in_place(
         return false;
     }
     let place = front(&room, n);
-    if !is_free(rt, place, rule) {
+    if !is_free(rt, place, place, rule) {
         return false;
     }
     put_at_place(rt, place, bytes, rule)
+}
+
+// Puts bytes into a new file beside a link which is lent, if the file to which it leads may be replaced. The launcher then
+// gives it that file's name. The answer is whether it is made; where not, that is said, by a name of the file.
+pub fn put_beside(
+    rt: &(impl System + Env + Files),
+    name: &[u8],
+    link: &[u8],
+    bytes: &[u8],
+    rule: Rule,
+) -> bool {
+    if !is_free(rt, name, link, rule) {
+        return false;
+    }
+    let mut room = [0u8; PATH_MAX];
+    let end = put_at(link, 0, &mut room);
+    let n = put_at(b".new", end, &mut room);
+    if end == 0 || n == 0 {
+        complain(rt, name, b": the name is too long");
+        return false;
+    }
+    let new = front(&room, n);
+    if let Err(why) = make_named(rt, bytes, new) {
+        failed(rt, name, why);
+        return false;
+    }
+    if !is_free(rt, name, link, rule) {
+        remove(rt, new);
+        return false;
+    }
+    true
 }

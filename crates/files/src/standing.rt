@@ -1,6 +1,6 @@
 // What stands where a file is to be written, and whether it may be replaced. Files are told apart by device and number,
 // whatever their names are.
-use crate::{Replacing, Rule, complain, failed, read_all};
+use crate::{Replacing, Rule, complain, failed, put_path, read_all};
 use arguments::Name;
 use byte_parts::{front, line_of};
 use report::System;
@@ -21,9 +21,9 @@ fn is_same(a: File, b: File) -> bool {
 
 // Whether a file is the one of a name.
 fn is_named(rt: &(impl Env + Files), file: File, name: Name) -> bool {
-    let mut word = [0u8; PATH_MAX];
-    let n = arguments::put_name(rt, name, &mut word);
-    match tool_paths::look_at(rt, front(&word, n)) {
+    let mut path = [0u8; PATH_MAX];
+    let n = put_path(rt, name, &mut path);
+    match tool_paths::look_at(rt, front(&path, n)) {
         Standing::Regular(other) => is_same(file, other),
         Standing::Other(other) => is_same(file, other),
         _ => false,
@@ -70,12 +70,12 @@ fn reason(rt: &(impl Env + Files), path: &[u8], rule: Rule) -> io::Result<usize>
     }
 }
 
-// Whether a file may be written at a path. Where it may not, that is said.
-pub fn is_free(rt: &(impl System + Env + Files), path: &[u8], rule: Rule) -> bool {
+// Whether a file may be written at a path. Where it may not, that is said, by a name of the path.
+pub fn is_free(rt: &(impl System + Env + Files), name: &[u8], path: &[u8], rule: Rule) -> bool {
     let number = match reason(rt, path, rule) {
         Ok(number) => number,
         Err(why) => {
-            failed(rt, path, why);
+            failed(rt, name, why);
             return false;
         }
     };
@@ -92,6 +92,6 @@ pub fn is_free(rt: &(impl System + Env + Files), path: &[u8], rule: Rule) -> boo
 ",
         number,
     );
-    complain(rt, path, why);
+    complain(rt, name, why);
     false
 }
