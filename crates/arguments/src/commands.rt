@@ -2,7 +2,7 @@
 use byte_parts::line_of;
 use region::same;
 
-#[derive(Drop)]
+#[derive(Clone, Copy)]
 pub enum Command {
     Plan,
     Check,
@@ -18,7 +18,7 @@ pub enum Command {
     Wrong,
 }
 
-#[derive(Drop)]
+#[derive(Clone, Copy)]
 pub enum Option {
     Password,
     Entry,

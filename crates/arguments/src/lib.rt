@@ -5,20 +5,26 @@
 mod commands;
 mod numbers;
 
+ghost use Rattle.std.specs.Prelude.{◌≤◌, length};
+
 use byte_parts::{behind, find, front};
 pub use commands::Command;
 use commands::Option;
-use report::Line;
+use report::{Line, System};
+use std::env::FillError;
+use std::rt::Env;
+use std::str;
+use tool_paths::PATH_MAX;
 
 // A name among the arguments: the argument, 0 for none, and the place in it where the name begins.
-#[derive(Drop)]
+#[derive(Clone, Copy)]
 pub struct Name {
     pub argument: usize,
     pub from: usize,
 }
 
 // What the arguments after the command say.
-#[derive(Drop)]
+#[derive(Clone, Copy)]
 pub struct Options {
     // How many files are named, and the first two of them.
     pub files: usize,
@@ -43,7 +49,7 @@ pub struct Options {
 }
 
 // What the program is asked to do.
-#[derive(Drop)]
+#[derive(Clone, Copy)]
 pub struct Request {
     pub command: Command,
     pub options: Options,
@@ -69,16 +75,43 @@ pub fn nothing() -> Name {
     }
 }
 
+// Puts an argument at the start of a room. The answer is its length, 0 where it is missing or the room is too short.
+fn put_word(rt: &impl Env, argument: usize, room: &mut [u8]) -> usize
+    ensures { result ≤ length room.new }
+{
+    match rt.arg(argument, room) {
+        Ok(n) => n,
+        Err(_) => 0,
+    }
+}
+
 // Puts a name at the start of a room. The answer is its length, 0 where there is none.
-pub fn put_name(name: Name, room: &mut [u8]) -> usize {
+pub fn put_name(rt: &impl Env, name: Name, room: &mut [u8]) -> usize {
     if name.argument == 0 {
         return 0;
     }
-    let mut word = io::buffer();
-    let n = os::arg(name.argument, &mut word);
+    let mut word = [0u8; PATH_MAX];
+    let n = put_word(rt, name.argument, &mut word);
     let part = behind(&word[..n], name.from);
     little_endian::store(part, 0, room);
     part.len()
+}
+
+// Puts at the start of a room the path of a link to the file of a name, which the launcher lends where the name, or one to
+// which it leads, is not UTF-8, as a path has to be. The answer is its length, 0 where none is lent.
+pub fn put_link(rt: &impl Env, name: Name, room: &mut [u8]) -> usize {
+    let variable = Line::new()
+        .text(b"CARDTOOL_LINK_")
+        .decimal(name.argument)
+        .text(b"_")
+        .decimal(name.from);
+    let Ok(words) = str::from_utf8(variable.words()) else {
+        return 0;
+    };
+    match rt.var(words, room) {
+        Ok(n) => n,
+        Err(_) => 0,
+    }
 }
 
 fn defaults() -> Options {
@@ -100,27 +133,28 @@ fn defaults() -> Options {
 }
 
 // Says what is wrong with the usage, and at which word.
-fn complain(why: &[u8], word: &[u8]) {
+fn complain(rt: &impl System, why: &[u8], word: &[u8]) {
     Line::new()
         .text(b"cardtool: ")
         .text(why)
         .name(front(word, 80))
-        .complain();
+        .complain(rt);
 }
 
 // Options that are wrong, which is said.
-fn refuse(options: Options, why: &[u8], word: &[u8]) -> Options {
-    complain(why, word);
+fn refuse(rt: &impl System, options: Options, why: &[u8], word: &[u8]) -> Options {
+    complain(rt, why, word);
     let mut changed = options;
     changed.wrong = true;
     changed
 }
 
 // Options with the entry address that a word gives; of one that four bytes cannot hold, the greatest that they can.
-fn with_entry(options: Options, word: &[u8]) -> Options {
+fn with_entry(rt: &impl System, options: Options, word: &[u8]) -> Options {
     let number = numbers::hex(word);
     if !number.good {
         return refuse(
+            rt,
             options,
             b"--entry wants an address in hex digits, not ",
             word,
@@ -132,10 +166,11 @@ fn with_entry(options: Options, word: &[u8]) -> Options {
 }
 
 // Options with the expected checksum that a word gives.
-fn with_expect(options: Options, word: &[u8]) -> Options {
+fn with_expect(rt: &impl System, options: Options, word: &[u8]) -> Options {
     let number = numbers::hex(word);
     if !number.good {
         return refuse(
+            rt,
             options,
             b"--expect wants a checksum in hex digits, not ",
             word,
@@ -143,6 +178,7 @@ fn with_expect(options: Options, word: &[u8]) -> Options {
     }
     if 65535 < number.value {
         return refuse(
+            rt,
             options,
             b"--expect wants a checksum of at most ffff, not ",
             word,
@@ -154,10 +190,11 @@ fn with_expect(options: Options, word: &[u8]) -> Options {
 }
 
 // Options with the size that a word gives.
-fn with_size(options: Options, word: &[u8]) -> Options {
+fn with_size(rt: &impl System, options: Options, word: &[u8]) -> Options {
     let number = numbers::decimal(word);
     if !number.good {
         return refuse(
+            rt,
             options,
             b"--size wants a number of bytes in decimal, not ",
             word,
@@ -169,7 +206,13 @@ fn with_size(options: Options, word: &[u8]) -> Options {
 }
 
 // Options with the value of an option, which stands in an argument from a place on.
-fn with_value(option: Option, word: &[u8], value: Name, options: Options) -> Options {
+fn with_value(
+    rt: &impl System,
+    option: Option,
+    word: &[u8],
+    value: Name,
+    options: Options,
+) -> Options {
     let mut changed = options;
     changed.wanting = 0;
     let part = behind(word, value.from);
@@ -182,10 +225,10 @@ fn with_value(option: Option, word: &[u8], value: Name, options: Options) -> Opt
             changed.region = value;
             changed
         }
-        Option::Entry => with_entry(changed, part),
-        Option::Size => with_size(changed, part),
-        Option::Expect => with_expect(changed, part),
-        _ => refuse(changed, b"the option has no value: ", word),
+        Option::Entry => with_entry(rt, changed, part),
+        Option::Size => with_size(rt, changed, part),
+        Option::Expect => with_expect(rt, changed, part),
+        _ => refuse(rt, changed, b"the option has no value: ", word),
     }
 }
 
@@ -202,19 +245,25 @@ fn with_named(option: Option, argument: usize, options: Options) -> Options {
 }
 
 // Options with one that an argument names, its value behind an equals sign or not.
-fn with_option(command: Command, word: &[u8], argument: usize, options: Options) -> Options {
+fn with_option(
+    rt: &impl System,
+    command: Command,
+    word: &[u8],
+    argument: usize,
+    options: Options,
+) -> Options {
     let equals = find(word, b'=');
     let name = front(word, equals);
     let option = commands::option_of(name);
     if !commands::takes(command, option) {
-        return refuse(options, b"the command has no option ", name);
+        return refuse(rt, options, b"the command has no option ", name);
     }
     if equals < word.len() {
         let value = Name {
             argument,
             from: equals + 1,
         };
-        return with_value(option, word, value, options);
+        return with_value(rt, option, word, value, options);
     }
     with_named(option, argument, options)
 }
@@ -236,9 +285,9 @@ fn with_file(argument: usize, options: Options) -> Options {
 }
 
 // The option that an argument names.
-fn option_at(argument: usize) -> Option {
-    let mut word = io::buffer();
-    let n = os::arg(argument, &mut word);
+fn option_at(rt: &impl Env, argument: usize) -> Option {
+    let mut word = [0u8; PATH_MAX];
+    let n = put_word(rt, argument, &mut word);
     commands::option_of(&word[..n])
 }
 
@@ -254,81 +303,90 @@ fn is_option(word: &[u8], options: Options) -> bool {
 }
 
 // Options with one argument more.
-fn with_argument(command: Command, argument: usize, options: Options) -> Options {
-    let mut word = io::buffer();
-    let n = os::arg(argument, &mut word);
-    if os::errno() != 0 {
-        return refuse(options, b"an argument is too long: ", &word);
-    }
+fn with_argument(
+    rt: &(impl System + Env),
+    command: Command,
+    word: &[u8],
+    argument: usize,
+    options: Options,
+) -> Options {
     if options.wanting != 0 {
         let value = Name { argument, from: 0 };
-        return with_value(option_at(options.wanting), &word[..n], value, options);
+        return with_value(rt, option_at(rt, options.wanting), word, value, options);
     }
-    if is_option(&word[..n], options) {
-        return with_option(command, &word[..n], argument, options);
+    if is_option(word, options) {
+        return with_option(rt, command, word, argument, options);
     }
     with_file(argument, options)
 }
 
 // What the arguments after the command say.
-fn options_of(command: Command, count: usize) -> Options {
+fn options_of(rt: &(impl System + Env), command: Command) -> Options {
     let mut options = defaults();
-    let mut i = 2;
-    while i < count {
-        options = with_argument(command, i, options);
-        i += 1;
+    for i in 2..usize::MAX {
+        let mut word = [0u8; PATH_MAX];
+        match rt.arg(i, &mut word) {
+            Ok(n) => options = with_argument(rt, command, &word[..n], i, options),
+            Err(FillError::TooLong) => options = refuse(
+                rt,
+                options,
+                b"an argument is too long: ",
+                &word,
+            ),
+            Err(FillError::NotPresent) => return options,
+        }
     }
     options
 }
 
 // Options as they are judged when all arguments are read.
-fn judged(command: Command, options: Options) -> Options {
+fn judged(rt: &impl System, command: Command, options: Options) -> Options {
     let wanted = commands::wanted(command);
     if options.wanting != 0 {
-        return refuse(options, b"the last option wants a value", b"");
+        return refuse(rt, options, b"the last option wants a value", b"");
     }
     if options.files < wanted {
-        return refuse(options, b"the command wants another file", b"");
+        return refuse(rt, options, b"the command wants another file", b"");
     }
     if wanted < options.files {
-        return refuse(options, b"the command wants fewer files", b"");
+        return refuse(rt, options, b"the command wants fewer files", b"");
     }
     options
 }
 
 // The command that the first argument names. Where it names none, that is said.
-fn first() -> Command {
-    let mut word = io::buffer();
-    let n = os::arg(1, &mut word);
+fn first(rt: &(impl System + Env)) -> Command {
+    let mut word = [0u8; PATH_MAX];
+    let n = put_word(rt, 1, &mut word);
     if n == 0 {
-        complain(b"a command is missing", b"");
+        complain(rt, b"a command is missing", b"");
         return Command::Wrong;
     }
     let command = commands::command_of(&word[..n]);
     match command {
-        Command::Wrong => complain(b"no such command: ", &word[..n]),
+        Command::Wrong => complain(rt, b"no such command: ", &word[..n]),
         _ => {}
     }
     command
 }
 
 // What the program is asked to do.
-pub fn read() -> Request {
-    let command = first();
+pub fn read(rt: &(impl System + Env)) -> Request {
+    let command = first(rt);
     if commands::is_alone(command) {
         return Request {
             command,
             options: defaults(),
         };
     }
-    let options = options_of(command, os::arg_count());
+    let options = options_of(rt, command);
     if options.help {
         return Request {
             command: Command::Help,
             options,
         };
     }
-    let settled = judged(command, options);
+    let settled = judged(rt, command, options);
     if settled.wrong {
         return Request {
             command: Command::Wrong,

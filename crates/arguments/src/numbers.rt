@@ -3,7 +3,7 @@ use byte_parts::behind;
 use firmware_text::digit_of;
 
 // A number read from a word, and whether the word is one.
-#[derive(Drop)]
+#[derive(Clone, Copy)]
 pub struct Number {
     pub value: usize,
     pub good: bool,

@@ -4,11 +4,15 @@ use arguments::{Command, Options};
 use byte_parts::{front, front_mut};
 use checker::Answer;
 use files::{PASSWORD_ROOM, Reading};
+use report::System;
+use std::io;
+use std::rt::{Env, Files};
 use tool_verdict::Behind;
 
 // Checks a script against the text of so many bytes by the options, and says what came of it. The table of cuts takes a
 // second region: by then the text is done with, and its room is lent for that.
 fn judge(
+    rt: &(impl System + Env + Files),
     command: Command,
     options: Options,
     script: &[u8],
@@ -17,7 +21,7 @@ fn judge(
     password: &[u8],
     room: &mut [u8],
     bits: &mut [u8],
-) {
+) -> io::Result<()> {
     let size = options.size;
     let text = front(texts, length);
     let region = front_mut(room, size);
@@ -32,19 +36,20 @@ fn judge(
     let answer = checked.answer;
     match answer {
         Answer::Refused { refusal, place } => {
-            tool_verdict::refused(script, text, password, refusal, place, behind, region)
+            tool_verdict::refused(rt, script, text, password, refusal, place, behind, region)
         }
         Answer::Passed => match command {
             Command::Cuts => {
-                tool_cuts::say(options, script, texts, length, password, behind, room)
+                tool_cuts::say(rt, options, script, texts, length, password, behind, room)
             }
-            _ => tool_verdict::passed(script, text, behind),
+            _ => tool_verdict::passed(rt, script, text, behind),
         },
     }
 }
 
 // Checks a script with the password that the options name.
 fn with_password(
+    rt: &(impl System + Env + Files),
     command: Command,
     options: Options,
     script: &[u8],
@@ -52,12 +57,13 @@ fn with_password(
     length: usize,
     region: &mut [u8],
     known: &mut [u8],
-) {
+) -> io::Result<()> {
     let mut room = [0u8; PASSWORD_ROOM];
-    let Reading::Held(n) = files::read_password(options.password, &mut room) else {
-        return;
+    let Reading::Held(n) = files::read_password(rt, options.password, &mut room) else {
+        return Ok(());
     };
     judge(
+        rt,
         command,
         options,
         script,
@@ -66,22 +72,32 @@ fn with_password(
         front(&room, n),
         region,
         known,
-    );
+    )
 }
 
 pub fn run(
+    rt: &(impl System + Env + Files),
     command: Command,
     options: Options,
     text: &mut [u8],
     script: &mut [u8],
     region: &mut [u8],
     known: &mut [u8],
-) {
-    let Reading::Held(n) = files::read(options.first, script) else {
-        return;
+) -> io::Result<()> {
+    let Reading::Held(n) = files::read(rt, options.first, script) else {
+        return Ok(());
     };
-    let Reading::Held(m) = files::read(options.second, text) else {
-        return;
+    let Reading::Held(m) = files::read(rt, options.second, text) else {
+        return Ok(());
     };
-    with_password(command, options, front(script, n), text, m, region, known);
+    with_password(
+        rt,
+        command,
+        options,
+        front(script, n),
+        text,
+        m,
+        region,
+        known,
+    )
 }

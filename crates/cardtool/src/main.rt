@@ -1,17 +1,26 @@
 // The tool of field staff, over the proved functions: scripts planned, checked and listed, images shown, summed and
-// written, sensor records printed. A program has no exit status here, so the first line of standard output says how
-// it went: `refused` and a number for a refusal, nothing at all where the usage or a file was wrong, which
-// standard error then says, and anything else for a success. The launcher beside the README turns
-// that line into an exit status. The large rooms stand here once, and are lent.
+// written, sensor records printed. The first line of standard output says how it went: `refused` and a number for a
+// refusal, nothing at all where the usage or a file was wrong, which standard error then says, and anything else for a
+// success. The launcher beside the README turns that line into an exit status; the program's own says only whether
+// what it printed was taken. The large rooms stand here once, and are lent.
 #![tactic(auto)]
 
 mod check;
 
 use arguments::Command;
+use report::System;
+use std::io;
+use std::process::ExitCode;
+use std::random::RandomSource;
+use std::rt::{Env, Files};
 use tool_words::usage;
 
-fn main() {
-    let request = arguments::read();
+// The status where what is printed cannot be written: as the system ends a program whose reader has gone.
+const UNHEARD: u8 = 141;
+
+// Does what the arguments ask for.
+fn run(rt: &(impl System + Env + Files + RandomSource + Alloc)) -> io::Result<()> {
+    let request = arguments::read(rt);
     let command = request.command;
     let options = request.options;
     let mut text = input_rooms::text_room();
@@ -19,9 +28,10 @@ fn main() {
     let mut region = input_rooms::region_room();
     let mut known = input_rooms::known_room();
     match command {
-        Command::Plan => tool_output::plan::run(options, &mut text, &mut script, &mut region),
+        Command::Plan => tool_output::plan::run(rt, options, &mut text, &mut script, &mut region),
         Command::Check | Command::Cuts => {
             check::run(
+                rt,
                 command,
                 options,
                 &mut text,
@@ -30,12 +40,19 @@ fn main() {
                 &mut known,
             )
         }
-        Command::Show => tool_show::run(options, &mut script),
+        Command::Show => tool_show::run(rt, options, &mut script),
         Command::Image | Command::Sums => {
-            tool_image::run(command, options, &mut text, &mut region)
+            tool_image::run(rt, command, options, &mut text, &mut region)
         }
-        Command::Picture => tool_output::picture::run(options, &mut text, &mut region),
-        Command::Record => tool_record::run(options),
-        _ => usage::answer(command),
+        Command::Picture => tool_output::picture::run(rt, options, &mut text, &mut region),
+        Command::Record => tool_record::run(rt, options),
+        _ => usage::answer(rt, command),
+    }
+}
+
+fn main(rt: HostRuntime) -> ExitCode {
+    match run(&rt) {
+        Ok(()) => ExitCode::SUCCESS,
+        Err(_) => ExitCode::from(UNHEARD),
     }
 }

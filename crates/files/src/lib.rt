@@ -5,10 +5,17 @@
 mod new;
 mod standing;
 
+ghost use Rattle.std.specs.Prelude.{◌≤◌, length, IfOk};
+
 use arguments::Name;
 use byte_parts::front;
-use libc::{PATH_MAX, STDERR_FILENO};
 use little_endian::byte_at;
+use report::{Line, System};
+use std::io::Read;
+use std::random::RandomSource;
+use std::rt::{Env, Files};
+use std::{fs, io};
+use tool_paths::PATH_MAX;
 
 // What was read of a file: so many bytes at the start of the room, which is full where the file has more; or that it
 // could not be read.
@@ -19,7 +26,7 @@ pub enum Reading {
 }
 
 // Which files that stand are replaced.
-#[derive(Drop)]
+#[derive(Clone, Copy)]
 pub enum Replacing {
     Nothing,
     Scripts,
@@ -27,7 +34,7 @@ pub enum Replacing {
 }
 
 // What may be replaced: neither of two files that were read, and of others those of a kind.
-#[derive(Drop)]
+#[derive(Clone, Copy)]
 pub struct Rule {
     pub first: Name,
     pub second: Name,
@@ -52,72 +59,76 @@ fn clean(name: &mut [u8]) {
 
 // A name as it may be sent to a terminal.
 fn printable(name: &[u8]) -> [u8; PATH_MAX] {
-    let mut room = io::buffer();
+    let mut room = [0u8; PATH_MAX];
     little_endian::store(name, 0, &mut room);
     clean(&mut room);
     room
 }
 
-// Says why the last call on a file failed.
-fn failed(name: &[u8]) {
+// Says why a call on a file failed.
+fn failed(rt: &impl System, name: &[u8], why: io::Error) {
     let shown = printable(name);
-    io::write_all(STDERR_FILENO, b"cardtool: ");
+    rt.complain(b"cardtool: ");
     if name.len() == 0 {
-        os::fail(b"an empty name");
-        return;
+        rt.complain(b"an empty name");
+    } else {
+        rt.complain(front(&shown, name.len()));
     }
-    os::fail(front(&shown, name.len()));
+    Line::new().text(b": ").reason(&why).complain(rt);
 }
 
 // Says what is wrong with a file.
-fn complain(name: &[u8], why: &[u8]) {
+fn complain(rt: &impl System, name: &[u8], why: &[u8]) {
     let shown = printable(name);
-    io::write_all(STDERR_FILENO, b"cardtool: ");
-    io::write_all(STDERR_FILENO, front(&shown, name.len()));
-    io::write_all(STDERR_FILENO, why);
-    io::write_all(STDERR_FILENO, b"\n");
+    rt.complain(b"cardtool: ");
+    rt.complain(front(&shown, name.len()));
+    rt.complain(why);
+    rt.complain(b"\n");
 }
 
-// Reads a file to its end, or until the room is full.
-fn read_all(descriptor: i32, room: &mut [u8]) -> Reading {
+// Reads the file at a path to its end, or until the room is full. The answer is how many bytes it has read.
+fn read_all(rt: &impl Files, path: &[u8], room: &mut [u8]) -> io::Result<usize> {
+    let mut file = fs::open(rt, tool_paths::text(path)?)?;
     let mut held = 0;
     while held < room.len() {
-        let got = libc::read(descriptor, &mut room[held..]);
-        if got < 0 {
-            return Reading::Failed;
-        }
-        let more = io::count(got, &room[held..]);
+        let more = file.read(&mut room[held..])?;
         if more == 0 {
-            return Reading::Held(held);
+            return Ok(held);
         }
         held += more;
     }
-    Reading::Held(held)
+    Ok(held)
+}
+
+// Puts the path at which the file of a name is found at the start of a room: that of a link which is lent, or the name. The
+// answer is its length, 0 where there is none.
+fn put_path(rt: &impl Env, name: Name, room: &mut [u8]) -> usize {
+    let n = arguments::put_link(rt, name, room);
+    if n != 0 {
+        return n;
+    }
+    arguments::put_name(rt, name, room)
 }
 
 // Reads the file of a name. A room with one byte more than is wanted shows that a file is too long.
-pub fn read(name: Name, room: &mut [u8]) -> Reading {
-    let mut word = io::buffer();
-    let n = arguments::put_name(name, &mut word);
-    let path = front(&word, n);
-    let descriptor = os::open_read(path);
-    if descriptor < 0 {
-        failed(path);
-        return Reading::Failed;
+pub fn read(rt: &(impl System + Env + Files), name: Name, room: &mut [u8]) -> Reading {
+    let mut word = [0u8; PATH_MAX];
+    let n = arguments::put_name(rt, name, &mut word);
+    let mut path = [0u8; PATH_MAX];
+    let m = put_path(rt, name, &mut path);
+    match read_all(rt, front(&path, m), room) {
+        Ok(held) => Reading::Held(held),
+        Err(why) => {
+            failed(rt, front(&word, n), why);
+            Reading::Failed
+        }
     }
-    let reading = read_all(descriptor, room);
-    match reading {
-        Reading::Failed => failed(path),
-        Reading::Held(_) => {}
-    }
-    libc::close(descriptor);
-    reading
 }
 
 // Reads the password of a file; where none is named, it is that of the vendor's page, all 0xFF.
-pub fn read_password(name: Name, room: &mut [u8]) -> Reading {
+pub fn read_password(rt: &(impl System + Env + Files), name: Name, room: &mut [u8]) -> Reading {
     if name.argument != 0 {
-        return read(name, room);
+        return read(rt, name, room);
     }
     region::fill(room, 0xFF);
     Reading::Held(PASSWORD)
@@ -125,16 +136,26 @@ pub fn read_password(name: Name, room: &mut [u8]) -> Reading {
 
 // Puts bytes into the file of a name, whole or not at all, if what stands there may be replaced. The answer is whether it
 // was written.
-pub fn save(to: Name, bytes: &[u8], rule: Rule) -> bool {
-    let mut word = io::buffer();
-    let n = arguments::put_name(to, &mut word);
+pub fn save(
+    rt: &(impl System + Env + Files + RandomSource + Alloc),
+    to: Name,
+    bytes: &[u8],
+    rule: Rule,
+) -> bool {
+    let mut word = [0u8; PATH_MAX];
+    let n = arguments::put_name(rt, to, &mut word);
     let path = front(&word, n);
     if n == 0 {
-        complain(b"an empty name", b": no file has it");
+        complain(rt, b"an empty name", b": no file has it");
         return false;
     }
-    if !standing::is_free(path, rule) {
+    let mut link = [0u8; PATH_MAX];
+    let m = arguments::put_link(rt, to, &mut link);
+    if m != 0 {
+        return new::put_beside(rt, path, front(&link, m), bytes, rule);
+    }
+    if !standing::is_free(rt, path, path, rule) {
         return false;
     }
-    new::put_in_place(path, bytes, rule)
+    new::put_in_place(rt, path, bytes, rule)
 }

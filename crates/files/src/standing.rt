@@ -1,14 +1,15 @@
 // What stands where a file is to be written, and whether it may be replaced. Files are told apart by device and number,
 // whatever their names are.
-use crate::{Replacing, Rule, complain, failed};
+use crate::{Replacing, Rule, complain, failed, put_path, read_all};
 use arguments::Name;
 use byte_parts::{front, line_of};
-use tool_paths::{File, Standing};
+use report::System;
+use std::io;
+use std::rt::{Env, Files};
+use tool_paths::{File, PATH_MAX, Standing};
 
-// Why no file is written: by the number of the reason's line in `is_free`, or one of these.
+// Why no file is written: by the number of the reason's line in `is_free`, or this.
 const NONE: usize = 0;
-
-const LOOK_FAILED: usize = 6;
 
 // Whether two files are one.
 fn is_same(a: File, b: File) -> bool {
@@ -19,10 +20,10 @@ fn is_same(a: File, b: File) -> bool {
 }
 
 // Whether a file is the one of a name.
-fn is_named(file: File, name: Name) -> bool {
-    let mut word = io::buffer();
-    let n = arguments::put_name(name, &mut word);
-    match tool_paths::look_at(front(&word, n)) {
+fn is_named(rt: &(impl Env + Files), file: File, name: Name) -> bool {
+    let mut path = [0u8; PATH_MAX];
+    let n = put_path(rt, name, &mut path);
+    match tool_paths::look_at(rt, front(&path, n)) {
         Standing::Regular(other) => is_same(file, other),
         Standing::Other(other) => is_same(file, other),
         _ => false,
@@ -30,58 +31,56 @@ fn is_named(file: File, name: Name) -> bool {
 }
 
 // Whether the file at a path begins as a script does.
-fn is_script(path: &[u8]) -> bool {
-    let descriptor = os::open_read(path);
-    if descriptor < 0 {
-        return false;
-    }
+fn is_script(rt: &impl Files, path: &[u8]) -> bool {
     let mut mark = [0u8; 3];
-    io::read_full(descriptor, &mut mark);
-    libc::close(descriptor);
-    region::same(&mark, b"BSX")
+    match read_all(rt, path, &mut mark) {
+        Ok(_) => region::same(&mark, b"BSX"),
+        Err(_) => false,
+    }
 }
 
 // Why a regular file that was not read is not replaced.
-fn kept(path: &[u8], replacing: Replacing) -> usize {
+fn kept(rt: &impl Files, path: &[u8], replacing: Replacing) -> usize {
     match replacing {
         Replacing::Any => NONE,
         Replacing::Nothing => 1,
-        Replacing::Scripts => if is_script(path) { NONE } else { 2 },
+        Replacing::Scripts => if is_script(rt, path) { NONE } else { 2 },
     }
 }
 
 // Why a regular file is not replaced.
-fn regular(path: &[u8], file: File, rule: Rule) -> usize {
-    if is_named(file, rule.first) {
+fn regular(rt: &(impl Env + Files), path: &[u8], file: File, rule: Rule) -> usize {
+    if is_named(rt, file, rule.first) {
         return 3;
     }
-    if is_named(file, rule.second) {
+    if is_named(rt, file, rule.second) {
         return 3;
     }
-    let replacing = rule.replacing;
-    kept(path, replacing)
+    kept(rt, path, rule.replacing)
 }
 
-// Why no file is written at a path.
-fn reason(path: &[u8], rule: Rule) -> usize {
-    match tool_paths::look_at(path) {
-        Standing::Missing => NONE,
-        Standing::Regular(file) => regular(path, file, rule),
-        Standing::Other(_) => 4,
-        Standing::TooLong => 5,
-        Standing::Unknown => LOOK_FAILED,
+// Why no file is written at a path; or it is an error that the system does not say what stands there.
+fn reason(rt: &(impl Env + Files), path: &[u8], rule: Rule) -> io::Result<usize> {
+    match tool_paths::look_at(rt, path) {
+        Standing::Missing => Ok(NONE),
+        Standing::Regular(file) => Ok(regular(rt, path, file, rule)),
+        Standing::Other(_) => Ok(4),
+        Standing::TooLong => Ok(5),
+        Standing::Unknown(why) => Err(why),
     }
 }
 
-// Whether a file may be written at a path. Where it may not, that is said.
-pub fn is_free(path: &[u8], rule: Rule) -> bool {
-    let number = reason(path, rule);
+// Whether a file may be written at a path. Where it may not, that is said, by a name of the path.
+pub fn is_free(rt: &(impl System + Env + Files), name: &[u8], path: &[u8], rule: Rule) -> bool {
+    let number = match reason(rt, path, rule) {
+        Ok(number) => number,
+        Err(why) => {
+            failed(rt, name, why);
+            return false;
+        }
+    };
     if number == NONE {
         return true;
-    }
-    if number == LOOK_FAILED {
-        failed(path);
-        return false;
     }
     let why = line_of(
         b"no reason
@@ -93,6 +92,6 @@ pub fn is_free(path: &[u8], rule: Rule) -> bool {
 ",
         number,
     );
-    complain(path, why);
+    complain(rt, name, why);
     false
 }

@@ -3,8 +3,12 @@
 // input.
 #![tactic(auto)]
 
-use libc::{STDERR_FILENO, STDOUT_FILENO};
+use byte_parts::front;
 use little_endian::byte_at;
+use std::fmt::Write;
+use std::rt::HostRuntime;
+use std::str;
+use std::{fmt, io, process};
 
 // The most bytes of a line.
 const ROOM: usize = 256;
@@ -13,6 +17,35 @@ const ROOM: usize = 256;
 pub struct Line {
     pub bytes: [u8; 256],
     pub held: usize,
+}
+
+// What the tool asks of the system beside what std's traits name.
+pub trait System: Print {
+    // Writes bytes, which need not be text, to standard error. Where that fails there is nowhere to say so.
+    fn complain(&self, bytes: &[u8]);
+
+    // The number of this process.
+    fn process_number(&self) -> u32;
+}
+
+impl System for HostRuntime {
+    fn complain(&self, bytes: &[u8]) {
+        let _ = self.stderr().write_all(bytes);
+    }
+
+    fn process_number(&self) -> u32 {
+        process::id(self.process())
+    }
+}
+
+// A line takes what is written to it, as far as it has room.
+impl fmt::Write for Line {
+    fn write_str(&mut self, words: &str) -> fmt::Result {
+        for b in words.as_bytes() {
+            self.put(*b);
+        }
+        Ok(())
+    }
 }
 
 impl Line {
@@ -24,15 +57,18 @@ impl Line {
         }
     }
 
+    // Puts one byte more into the line.
+    fn put(&mut self, b: u8) {
+        if self.held < ROOM {
+            self.bytes[self.held] = b;
+            self.held += 1;
+        }
+    }
+
     // The line with one byte more.
     pub fn byte(self, b: u8) -> Line {
-        let at = self.held;
-        if ROOM <= at {
-            return self;
-        }
         let mut next = self;
-        next.bytes[at] = b;
-        next.held = at + 1;
+        next.put(b);
         next
     }
 
@@ -67,7 +103,8 @@ impl Line {
 
     // The line with spaces behind it, up to a column.
     pub fn to(self, column: usize) -> Line {
-        self.repeat(b' ', less(column, self.held))
+        let missing = less(column, self.held);
+        self.repeat(b' ', missing)
     }
 
     // The line with a number behind it.
@@ -77,16 +114,15 @@ impl Line {
 
     // The line with a number behind it in at least so many digits.
     pub fn padded(self, n: usize, least: usize) -> Line {
-        let mut digits = [0u8; 20];
-        let count = io::decimal(n as u64, &mut digits);
-        self.repeat(b'0', less(least, count)).text(&digits[..count])
+        let digits = decimal_digits(n);
+        self.repeat(b'0', less(least, digits.held))
+            .text(digits.words())
     }
 
     // The line with a number behind it whose last digit stands before a column.
     pub fn right(self, n: usize, column: usize) -> Line {
-        let mut digits = [0u8; 20];
-        let count = io::decimal(n as u64, &mut digits);
-        self.to(less(column, count)).text(&digits[..count])
+        let digits = decimal_digits(n);
+        self.to(less(column, digits.held)).text(digits.words())
     }
 
     // The line with a number of things behind it: `1 packet`, `2 packets`.
@@ -105,19 +141,58 @@ impl Line {
 
     // The line with a number behind it in at least so many hexadecimal digits.
     pub fn code(self, n: usize, least: usize) -> Line {
-        let mut digits = [0u8; 16];
-        let count = io::hex(n as u64, least, &mut digits);
-        self.text(&digits[..count])
+        let digits = hex_digits(n);
+        self.repeat(b'0', less(least, digits.held))
+            .text(digits.words())
+    }
+
+    // The line with the reason of a failed call behind it, in the system's words without its number.
+    pub fn reason(self, why: &io::Error) -> Line {
+        let mut whole = Line::new();
+        let _ = write!(whole, "{why}");
+        self.text(before_number(whole.words()))
+    }
+
+    // What the line holds.
+    pub fn words(&self) -> &[u8] {
+        front(&self.bytes, self.held)
     }
 
     // Prints the line to standard output.
-    pub fn print(self) {
-        print_to(STDOUT_FILENO, self);
+    pub fn print(self, rt: &impl Print) -> io::Result<()> {
+        let ended = self.byte(b'\n');
+        rt.write_all(ended.words())
     }
 
     // Prints the line to standard error.
-    pub fn complain(self) {
-        print_to(STDERR_FILENO, self);
+    pub fn complain(self, rt: &impl System) {
+        let ended = self.byte(b'\n');
+        rt.complain(ended.words());
+    }
+}
+
+// The digits of a number, for which a line has room.
+fn decimal_digits(n: usize) -> Line {
+    let mut digits = Line::new();
+    let _ = write!(digits, "{n}");
+    digits
+}
+
+// The hexadecimal digits of a number.
+fn hex_digits(n: usize) -> Line {
+    let mut digits = Line::new();
+    let _ = write!(digits, "{n:x}");
+    digits
+}
+
+// The words of a reason before the number that std writes behind those of the system.
+fn before_number(words: &[u8]) -> &[u8] {
+    match str::from_utf8(words) {
+        Ok(text) => match text.rsplit_once(" (os error ") {
+            Some((reason, _)) => reason.as_bytes(),
+            None => words,
+        },
+        Err(_) => words,
     }
 }
 
@@ -154,11 +229,4 @@ fn less(a: usize, b: usize) -> usize {
         return 0;
     }
     a - b
-}
-
-// Writes a line and its end.
-fn print_to(descriptor: i32, line: Line) {
-    let ended = line.byte(b'\n');
-    let bytes = ended.bytes;
-    io::write_all(descriptor, byte_parts::front(&bytes, ended.held));
 }

@@ -7,7 +7,9 @@ use byte_parts::{front, front_mut};
 use files::Reading;
 use loader::{Loader, Mode};
 use refusal::Refusal;
-use report::Line;
+use report::{Line, System};
+use std::io;
+use std::rt::{Env, Files};
 use tool_verdict::Behind;
 use tool_words::{cause, packets};
 
@@ -23,43 +25,43 @@ const MOST: usize = 4;
 
 // A card as far as a script has been sent to it: the loader's part of its state, and whether it would come up in application
 // mode now.
-#[derive(Drop)]
+#[derive(Clone, Copy)]
 struct Reached {
     state: Loader,
     started: bool,
 }
 
 // The modes that a card was seen to come up in.
-#[derive(Drop)]
+#[derive(Clone, Copy)]
 struct Seen {
     locked: bool,
     application: bool,
 }
 
 // Reads the region that a card held; where no file is named, it is 0x00 throughout. The answer is its length.
-fn read_region(options: Options, room: &mut [u8]) -> Reading {
+fn read_region(rt: &(impl System + Env + Files), options: Options, room: &mut [u8]) -> Reading {
     let name = options.region;
     if name.argument != 0 {
-        return files::read(name, room);
+        return files::read(rt, name, room);
     }
     region::fill(room, 0x00);
     Reading::Held(options.size)
 }
 
 // Says that the region of a file has another length than the card's. A longer file may not have been read whole.
-fn refused(length: usize, size: usize) {
+fn refused(rt: &impl Print, length: usize, size: usize) -> io::Result<()> {
     let line = Line::new().text(b"the file of --region has ");
-    cause::refused(Refusal::RegionSize);
+    cause::refused(rt, Refusal::RegionSize)?;
     if size < length {
         line.text(b"more than ")
             .count(size, b"byte")
             .text(b", the size")
-            .print();
+            .print(rt)
     } else {
         line.count(length, b"byte")
             .text(b", and the size is ")
             .decimal(size)
-            .print();
+            .print(rt)
     }
 }
 
@@ -129,21 +131,21 @@ fn modes(line: Line, seen: Seen) -> Line {
     line.text(b"-")
 }
 
-fn heading(options: Options) {
+fn heading(rt: &impl Print, options: Options) -> io::Result<()> {
     let name = options.region;
     if name.argument == 0 {
         Line::new()
             .text(b"how a card whose flash held 0x00 throughout comes up if the power fails:")
-            .print();
+            .print(rt)?;
     } else {
         Line::new()
             .text(b"how a card whose flash held that region comes up if the power fails:")
-            .print();
+            .print(rt)?;
     }
     packets::heading()
         .to(BEFORE)
         .text(b"before it    inside it    after it")
-        .print();
+        .print(rt)
 }
 
 // The line of a packet up to the column behind it, with the mode that a card comes up in before it.
@@ -153,6 +155,7 @@ fn before(number: usize, at: usize, packet: &[u8], started: bool) -> Line {
 
 // Prints the line of a packet, and runs it.
 fn row(
+    rt: &impl Print,
     number: usize,
     at: usize,
     reached: Reached,
@@ -160,56 +163,73 @@ fn row(
     packet: &[u8],
     region: &mut [u8],
     other: &mut [u8],
-) -> Reached {
+) -> io::Result<Reached> {
     let seen = inside(reached.state, packet, region, other);
     let received = loader::receive(reached.state, region, password, packet);
     let state = received.loader;
     let started = starts(state, region);
     let line = modes(before(number, at, packet, reached.started), seen);
-    mode(line.to(AFTER), started).print();
-    Reached { state, started }
+    mode(line.to(AFTER), started).print(rt)?;
+    Ok(Reached { state, started })
 }
 
 // The lines of all packets of a script that passes, as it is sent to a card.
-fn rows(script: &[u8], password: &[u8], card: Reached, region: &mut [u8], other: &mut [u8]) {
+fn rows(
+    rt: &impl Print,
+    script: &[u8],
+    password: &[u8],
+    card: Reached,
+    region: &mut [u8],
+    other: &mut [u8],
+) -> io::Result<()> {
     let mut reached = card;
     let mut number = 1;
     let mut at = packets::HEAD;
     while at < script.len() {
         let packet = packets::packet_at(script, at);
         if packet.len() == 0 {
-            return;
+            return Ok(());
         }
-        reached = row(number, at, reached, password, packet, region, other);
+        reached = row(rt, number, at, reached, password, packet, region, other)?;
         at += packet.len();
         number += 1;
     }
+    Ok(())
 }
 
 // Says how a card comes up from cuts, as it is sent a script that passes, the region being what it held before.
 fn print(
+    rt: &impl Print,
     options: Options,
     script: &[u8],
     password: &[u8],
     expected: u16,
     region: &mut [u8],
     other: &mut [u8],
-) {
+) -> io::Result<()> {
     let state = Loader {
         mode: Mode::Locked,
         expected,
     };
     let started = starts(state, region);
-    heading(options);
-    rows(script, password, Reached { state, started }, region, other);
+    heading(rt, options)?;
+    rows(
+        rt,
+        script,
+        password,
+        Reached { state, started },
+        region,
+        other,
+    )?;
     Line::new()
         .text(b"inside it: tried at up to 4 places of the packet's work")
-        .print();
+        .print(rt)
 }
 
 // Says of a script that passes that it does, and how a card comes up from cuts, if the region that it held can be read.
 // The text has so many bytes; once it is done with, its room is the second region that cuts take.
 pub fn say(
+    rt: &(impl System + Env + Files),
     options: Options,
     script: &[u8],
     text: &mut [u8],
@@ -217,23 +237,23 @@ pub fn say(
     password: &[u8],
     behind: Behind,
     room: &mut [u8],
-) {
+) -> io::Result<()> {
     let size = options.size;
-    let Reading::Held(n) = read_region(options, room) else {
-        return;
+    let Reading::Held(n) = read_region(rt, options, room) else {
+        return Ok(());
     };
     if n != size {
-        refused(n, size);
-        return;
+        return refused(rt, n, size);
     }
-    tool_verdict::passed(script, front(text, length), behind);
+    tool_verdict::passed(rt, script, front(text, length), behind)?;
     let region = front_mut(room, size);
     print(
+        rt,
         options,
         script,
         password,
         behind.expected,
         region,
         front_mut(text, size),
-    );
+    )
 }

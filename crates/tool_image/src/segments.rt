@@ -2,7 +2,7 @@
 use text_cursor::{Cursor, Token};
 
 // The line that opens a segment, if one was found: the segment's address, and the place behind the line.
-#[derive(Drop)]
+#[derive(Clone, Copy)]
 pub struct Opening {
     pub found: bool,
     pub address: u64,
@@ -10,7 +10,7 @@ pub struct Opening {
 }
 
 // The number of a segment's bytes, and the line behind it that opens the next.
-#[derive(Drop)]
+#[derive(Clone, Copy)]
 pub struct Ending {
     pub count: usize,
     pub next: Opening,

@@ -6,6 +6,7 @@ ghost use Rattle.std.specs.Prelude.{◌-◌, ◌≤◌, length};
 use crate::segments;
 use byte_parts::{behind, front};
 use report::Line;
+use std::io;
 use tool_words::lines;
 
 // The greatest number of bytes that a range checksum can ask for.
@@ -55,7 +56,7 @@ fn carrying(sum: u16) -> [u8; 9] {
 }
 
 // Prints what stands in the columns.
-fn print_heading() {
+fn print_heading(rt: &impl Print) -> io::Result<()> {
     Line::new()
         .text(b"  at")
         .to(BYTES_END - 5)
@@ -66,11 +67,11 @@ fn print_heading() {
         .text(b"packet that asks for it")
         .to(REPLY_AT)
         .text(b"reply")
-        .print();
+        .print(rt)
 }
 
 // Prints a stretch that begins at an address.
-fn print_stretch(address: usize, bytes: &[u8]) {
+fn print_stretch(rt: &impl Print, address: usize, bytes: &[u8]) -> io::Result<()> {
     let sum = crc::checksum(crc::START, bytes);
     let stretch = Line::new()
         .text(b"  ")
@@ -81,7 +82,7 @@ fn print_stretch(address: usize, bytes: &[u8]) {
         .code(sum as usize, 4)
         .to(PACKET_AT - 1);
     let asked = with_bytes(stretch, &asking(address, bytes.len()));
-    with_bytes(asked.to(REPLY_AT - 1), &carrying(sum)).print();
+    with_bytes(asked.to(REPLY_AT - 1), &carrying(sum)).print(rt)
 }
 
 // The stretch of a segment's bytes from a place on.
@@ -92,17 +93,18 @@ fn stretch_at(bytes: &[u8], from: usize) -> &[u8]
 }
 
 // Prints the stretches of a segment that begins at an address.
-fn print_stretches(address: usize, bytes: &[u8]) {
+fn print_stretches(rt: &impl Print, address: usize, bytes: &[u8]) -> io::Result<()> {
     let mut from = 0;
     while from < bytes.len() {
         let stretch = stretch_at(bytes, from);
         let count = stretch.len();
         if count == 0 {
-            return;
+            return Ok(());
         }
-        print_stretch(segments::together(address, from), stretch);
+        print_stretch(rt, segments::together(address, from), stretch)?;
         from += count;
     }
+    Ok(())
 }
 
 // The line of a segment of so many bytes with how its checksum is had from a card, where that takes more or less than one reply.
@@ -117,7 +119,7 @@ fn with_replies(line: Line, count: usize) -> Line {
 }
 
 // Prints a segment with its number, and the checksum of all its bytes.
-fn print_segment(number: usize, address: usize, bytes: &[u8]) {
+fn print_segment(rt: &impl Print, number: usize, address: usize, bytes: &[u8]) -> io::Result<()> {
     let count = bytes.len();
     let named = Line::new()
         .text(b"segment ")
@@ -129,52 +131,57 @@ fn print_segment(number: usize, address: usize, bytes: &[u8]) {
         .count(count, b"byte")
         .text(b", checksum 0x")
         .code(crc::checksum(crc::START, bytes) as usize, 4);
-    with_replies(line, count).print();
-    print_stretches(address, bytes);
+    with_replies(line, count).print(rt)?;
+    print_stretches(rt, address, bytes)
 }
 
 // Prints the segments of a text whose image a region holds, and answers how many bytes they have. Each takes at least one
 // byte of the text, so there are no more than that.
-fn print_segments(text: &[u8], region: &[u8]) -> usize {
+fn print_segments(rt: &impl Print, text: &[u8], region: &[u8]) -> io::Result<usize> {
     let mut open = segments::first(text);
     let mut bytes = 0;
     for i in 0..text.len() {
         if !open.found {
-            return bytes;
+            return Ok(bytes);
         }
         let address = open.address as usize;
         let end = segments::end_of(text, open);
-        print_segment(i + 1, address, front(behind(region, address), end.count));
+        print_segment(
+            rt,
+            i + 1,
+            address,
+            front(behind(region, address), end.count),
+        )?;
         bytes = segments::together(bytes, end.count);
         open = end.next;
     }
-    bytes
+    Ok(bytes)
 }
 
 // Prints the table of a text's segments, and whose replies it has.
-fn print_table(text: &[u8], region: &[u8]) {
-    print_heading();
-    if print_segments(text, region) == 0 {
-        return;
+fn print_table(rt: &impl Print, text: &[u8], region: &[u8]) -> io::Result<()> {
+    print_heading(rt)?;
+    if print_segments(rt, text, region)? == 0 {
+        return Ok(());
     }
     Line::new()
         .text(b"replies are those of an unlocked loader that holds the image")
         .text(b"; a locked one wants its password first")
-        .print();
+        .print(rt)
 }
 
 // Prints the checksums of a text that is sound for the size, whose image the region holds.
-pub fn print(text: &[u8], size: usize, region: &[u8]) {
-    lines::bytes(b"checksums in a region of ", size);
+pub fn print(rt: &impl Print, text: &[u8], size: usize, region: &[u8]) -> io::Result<()> {
+    lines::bytes(rt, b"checksums in a region of ", size)?;
     let open = segments::first(text);
     if open.found {
-        print_table(text, region);
+        print_table(rt, text, region)?;
     } else {
-        Line::new().text(b"no segment").print();
+        Line::new().text(b"no segment").print(rt)?;
     }
     Line::new()
         .text(b"image checksum 0x")
         .code(crc::checksum(crc::START, region) as usize, 4)
         .text(b", of all bytes of the region, 0xff where no segment stands")
-        .print();
+        .print(rt)
 }

@@ -6,24 +6,27 @@ mod values;
 use arguments::Options;
 use byte_parts::front;
 use files::Reading;
+use report::System;
 use sensor_record::ReadRecord;
+use std::io;
+use std::rt::{Env, Files};
 use tool_words::cause;
 
 // A record, and one byte more.
 const ROOM: usize = 65;
 
 // Prints a record, or says why it is refused.
-fn print(bytes: &[u8]) {
+fn print(rt: &impl Print, bytes: &[u8]) -> io::Result<()> {
     match sensor_record::read(bytes) {
-        ReadRecord::Refused(why) => cause::refused(why),
-        ReadRecord::Held(held) => values::print(held),
+        ReadRecord::Refused(why) => cause::refused(rt, why),
+        ReadRecord::Held(held) => values::print(rt, held),
     }
 }
 
-pub fn run(options: Options) {
+pub fn run(rt: &(impl System + Env + Files), options: Options) -> io::Result<()> {
     let mut room = [0u8; ROOM];
-    let Reading::Held(n) = files::read(options.first, &mut room) else {
-        return;
+    let Reading::Held(n) = files::read(rt, options.first, &mut room) else {
+        return Ok(());
     };
-    print(front(&room, n));
+    print(rt, front(&room, n))
 }

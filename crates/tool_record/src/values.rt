@@ -8,6 +8,7 @@ use report::Line;
 use sensor_values::{
     BoardSensors, BoardStatus, Device, FlashControl, SecurityStatus, SensorRecord,
 };
+use std::io;
 use temperature::to_byte;
 
 // The column where a value begins.
@@ -41,48 +42,51 @@ fn value(line: Line, form: &[u8], n: usize) -> Line {
 }
 
 // Prints a value by its line of a list.
-fn print_value(entry: &[u8], n: usize) {
+fn print_value(rt: &impl Print, entry: &[u8], n: usize) -> io::Result<()> {
     let name = part_at(entry, 0, b'=');
     let line = Line::new().text(b"  ").text(name).to(VALUE);
-    value(line, behind(behind(entry, name.len()), 1), n).print();
+    value(line, behind(behind(entry, name.len()), 1), n).print(rt)
 }
 
 // Prints a part of a record: its name, and its values by a list.
-fn print_part(name: &[u8], list: &[u8], values: &[usize]) {
-    Line::new().text(name).print();
+fn print_part(rt: &impl Print, name: &[u8], list: &[u8], values: &[usize]) -> io::Result<()> {
+    Line::new().text(name).print(rt)?;
     for i in 0..values.len() {
-        print_value(line_of(list, i), values[i]);
+        print_value(rt, line_of(list, i), values[i])?;
     }
+    Ok(())
 }
 
-fn status(s: BoardStatus) {
+fn status(rt: &impl Print, s: BoardStatus) -> io::Result<()> {
     let values = [
         s.tcrit as usize,
         s.power_good as usize,
         s.flash_writes as usize * 100,
     ];
     print_part(
+        rt,
         b"board status",
         b"TCRIT events=#
 power good events=#
 writes to the controller's flash=#
 ",
         &values,
-    );
+    )
 }
 
-fn security(s: SecurityStatus) {
+fn security(rt: &impl Print, s: SecurityStatus) -> io::Result<()> {
     print_part(
+        rt,
         b"board security",
         b"controller connected to=device 1|device 2|
 JTAG access=disabled|enabled|
 ",
         &[s.spi_device as usize, s.jtag as usize],
-    );
+    )
 }
 
 // The flash of a device, and which of its two flashes are authenticated, by a bit each.
-fn flash(name: &[u8], f: FlashControl, bits: u8) {
+fn flash(rt: &impl Print, name: &[u8], f: FlashControl, bits: u8) -> io::Result<()> {
     let values = [
         f.recovery as usize,
         f.mode as usize,
@@ -90,6 +94,7 @@ fn flash(name: &[u8], f: FlashControl, bits: u8) {
         (bits % 4) as usize,
     ];
     print_part(
+        rt,
         name,
         b"flash selected=primary|recovery|
 controlled by=device, two lines|controller, one line|device, four lines|not valid|
@@ -97,10 +102,10 @@ write=protected|enabled|
 authenticated=none|primary|recovery|primary and recovery|
 ",
         &values,
-    );
+    )
 }
 
-fn sensors(s: BoardSensors) {
+fn sensors(rt: &impl Print, s: BoardSensors) -> io::Result<()> {
     let main = s.input_12v;
     let values = [
         to_byte(s.inlet) as usize,
@@ -111,6 +116,7 @@ fn sensors(s: BoardSensors) {
         s.total_power as usize,
     ];
     print_part(
+        rt,
         b"board sensors",
         b"inlet temperature=^ C
 outlet temperature=^ C
@@ -120,10 +126,10 @@ power of the 12 V input=# W
 total power=# W
 ",
         &values,
-    );
+    )
 }
 
-fn device(name: &[u8], d: Device) {
+fn device(rt: &impl Print, name: &[u8], d: Device) -> io::Result<()> {
     let pins = d.status;
     let errors = d.errors;
     let values = [
@@ -139,6 +145,7 @@ fn device(name: &[u8], d: Device) {
         errors.pcie_correctable as usize,
     ];
     print_part(
+        rt,
         name,
         b"DONE pin=#
 INIT_B pin=#
@@ -152,20 +159,20 @@ PCIe errors, uncorrectable=#
 PCIe errors, correctable=#
 ",
         &values,
-    );
+    )
 }
 
 // Prints a record that keeps the U30's rule.
-pub fn print(r: SensorRecord) {
+pub fn print(rt: &impl Print, r: SensorRecord) -> io::Result<()> {
     let access = r.security;
     let one = access.flash1;
     let two = access.flash2;
-    Line::new().text(b"sensor record").print();
-    status(r.status);
-    security(access);
-    flash(b"flash of device 1", one, access.authentication);
-    flash(b"flash of device 2", two, access.authentication / 4);
-    sensors(r.sensors);
-    device(b"device 1", r.device1);
-    device(b"device 2", r.device2);
+    Line::new().text(b"sensor record").print(rt)?;
+    status(rt, r.status)?;
+    security(rt, access)?;
+    flash(rt, b"flash of device 1", one, access.authentication)?;
+    flash(rt, b"flash of device 2", two, access.authentication / 4)?;
+    sensors(rt, r.sensors)?;
+    device(rt, b"device 1", r.device1)?;
+    device(rt, b"device 2", r.device2)
 }

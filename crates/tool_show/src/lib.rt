@@ -6,7 +6,9 @@ use byte_parts::front;
 use files::Reading;
 use packet::Command;
 use refusal::Refusal;
-use report::Line;
+use report::{Line, System};
+use std::io;
+use std::rt::{Env, Files};
 use tool_words::{cause, packets};
 
 // Where the columns behind the command begin: address, length, acknowledgement. A length ends before the column that
@@ -44,75 +46,74 @@ fn operands(line: Line, core: &[u8]) -> Line {
 }
 
 // The line of a packet.
-fn row(number: usize, at: usize, packet: &[u8]) {
+fn row(rt: &impl Print, number: usize, at: usize, packet: &[u8]) -> io::Result<()> {
     let named = packets::row(number, at, packet);
     let line = operands(named, packet::core(packet)).to(ACKNOWLEDGEMENT);
-    packets::acknowledgement(line, packet::acknowledgement(packet)).print();
+    packets::acknowledgement(line, packet::acknowledgement(packet)).print(rt)
 }
 
 // The lines of all packets.
-fn rows(script: &[u8]) {
+fn rows(rt: &impl Print, script: &[u8]) -> io::Result<()> {
     let mut number = 1;
     let mut at = packets::HEAD;
     while at < script.len() {
         let packet = packets::packet_at(script, at);
         if packet.len() == 0 {
-            return;
+            return Ok(());
         }
-        row(number, at, packet);
+        row(rt, number, at, packet)?;
         at += packet.len();
         number += 1;
     }
+    Ok(())
 }
 
-fn heading() {
+fn heading(rt: &impl Print) -> io::Result<()> {
     let more = packets::heading()
         .to(ADDRESS)
         .text(b"address")
         .to(LENGTH - 6)
         .text(b"length");
-    more.to(ACKNOWLEDGEMENT).text(b"acknowledgement").print();
+    more.to(ACKNOWLEDGEMENT).text(b"acknowledgement").print(rt)
 }
 
 // Lists a script that begins as one.
-fn list(script: &[u8]) {
+fn list(rt: &impl Print, script: &[u8]) -> io::Result<()> {
     let framing = packets::framing(script);
     if framing.end < script.len() {
-        cause::refused(Refusal::PacketCut);
-        cause::place(framing.end).print();
+        cause::refused(rt, Refusal::PacketCut)?;
+        cause::place(framing.end).print(rt)?;
     }
     Line::new()
         .text(b"script of ")
         .count(script.len(), b"byte")
         .text(b", ")
         .count(framing.packets, b"packet")
-        .print();
-    heading();
-    rows(script);
+        .print(rt)?;
+    heading(rt)?;
+    rows(rt, script)
 }
 
 // Says that a script is refused as a whole.
-fn refused(why: Refusal) {
-    cause::refused(why);
-    cause::place(0).print();
+fn refused(rt: &impl Print, why: Refusal) -> io::Result<()> {
+    cause::refused(rt, why)?;
+    cause::place(0).print(rt)
 }
 
 // Shows a script, or says why it is none, in document 01's order.
-fn show(script: &[u8]) {
+fn show(rt: &impl Print, script: &[u8]) -> io::Result<()> {
     if LONGEST < script.len() {
-        refused(Refusal::TooLong);
-        return;
+        return refused(rt, Refusal::TooLong);
     }
     if !script::is_headed(script) {
-        refused(Refusal::ScriptHead);
-        return;
+        return refused(rt, Refusal::ScriptHead);
     }
-    list(script);
+    list(rt, script)
 }
 
-pub fn run(options: Options, room: &mut [u8]) {
-    let Reading::Held(n) = files::read(options.first, room) else {
-        return;
+pub fn run(rt: &(impl System + Env + Files), options: Options, room: &mut [u8]) -> io::Result<()> {
+    let Reading::Held(n) = files::read(rt, options.first, room) else {
+        return Ok(());
     };
-    show(front(room, n));
+    show(rt, front(room, n))
 }

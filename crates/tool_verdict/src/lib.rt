@@ -3,16 +3,42 @@
 
 use loader::{Loader, Mode, Reply};
 use refusal::Refusal;
-use report::Line;
+use report::{Line, System};
+use std::io;
 use tool_words::{cause, entry, lines, packets, place};
 
 // A script that was run as far as it succeeded: the number of its packets that did, that of the bytes still unknown
 // then, and the checksum that was expected.
-#[derive(Drop)]
+#[derive(Clone, Copy)]
 pub struct Behind {
     pub packets: usize,
     pub unknown: usize,
     pub expected: u16,
+}
+
+// Where a refusal stands.
+#[derive(Clone, Copy)]
+enum Spot {
+    // At a packet that the loader refuses over zeros.
+    OverZeros,
+    // At another packet of the script.
+    Packet,
+    // At the end of the script.
+    End,
+    // At a place of the firmware text, or at none: it was judged before the run.
+    BeforeRun { is_in_text: bool },
+}
+
+// Where a refusal stands.
+fn spot_of(refusal: &Refusal) -> Spot {
+    match refusal {
+        Refusal::RefusedOverZeros => Spot::OverZeros,
+        Refusal::PacketCut | Refusal::PictureDiffers | Refusal::BytesAfterStart => Spot::Packet,
+        Refusal::NotStarted => Spot::End,
+        other => Spot::BeforeRun {
+            is_in_text: place::is_in_text(other),
+        },
+    }
 }
 
 // A loader behind the packets of a run, none of which started the firmware: where one has succeeded it is
@@ -31,13 +57,13 @@ fn loader_behind(behind: Behind) -> Loader {
 }
 
 // Says what the loader answers to a packet.
-fn answered(reply: Reply) {
+fn answered(rt: &impl Print, reply: Reply) -> io::Result<()> {
     let line = Line::new().text(b"the loader answers ");
     match reply {
-        Reply::Nothing => line.text(b"nothing").print(),
-        Reply::Byte(code) => packets::acknowledgement(line, code).print(),
-        Reply::Message(code) => packets::message(line.text(b"00 and message "), code).print(),
-        Reply::Data(_) => line.text(b"00 and data").print(),
+        Reply::Nothing => line.text(b"nothing").print(rt),
+        Reply::Byte(code) => packets::acknowledgement(line, code).print(rt),
+        Reply::Message(code) => packets::message(line.text(b"00 and message "), code).print(rt),
+        Reply::Data(_) => line.text(b"00 and data").print(rt),
     }
 }
 
@@ -50,57 +76,64 @@ fn in_script(script: &[u8], at: usize, packets: usize) -> Line {
 }
 
 // Says what stands at the place of a refusal.
-fn located(script: &[u8], text: &[u8], refusal: Refusal, at: usize, packets: usize) {
-    match refusal {
-        Refusal::PacketCut
-        | Refusal::RefusedOverZeros
-        | Refusal::PictureDiffers
-        | Refusal::BytesAfterStart => in_script(script, at, packets).print(),
-        Refusal::NotStarted => cause::place(at).text(b": the end of the script").print(),
-        _ => place::located(text, refusal, at),
+fn located(
+    rt: &impl Print,
+    script: &[u8],
+    text: &[u8],
+    spot: Spot,
+    at: usize,
+    packets: usize,
+) -> io::Result<()> {
+    match spot {
+        Spot::OverZeros | Spot::Packet => in_script(script, at, packets).print(rt),
+        Spot::End => cause::place(at).text(b": the end of the script").print(rt),
+        Spot::BeforeRun { is_in_text } => place::located(rt, text, is_in_text, at),
     }
 }
 
 // Says why a packet is refused over a region: what the loader answers to it there.
-fn explained(refusal: Refusal, packet: &[u8], password: &[u8], behind: Behind, region: &mut [u8]) {
-    match refusal {
-        Refusal::RefusedOverZeros => {
+fn explained(
+    rt: &impl Print,
+    spot: Spot,
+    packet: &[u8],
+    password: &[u8],
+    behind: Behind,
+    region: &mut [u8],
+) -> io::Result<()> {
+    match spot {
+        Spot::OverZeros => {
             let received = loader::receive(loader_behind(behind), region, password, packet);
-            let reply = received.reply;
-            answered(reply);
+            answered(rt, received.reply)
         }
-        _ => {}
+        _ => Ok(()),
     }
 }
 
 // Says that a script passes.
-pub fn passed(script: &[u8], text: &[u8], behind: Behind) {
-    Line::new().text(b"pass").print();
-    lines::number(b"packets ", behind.packets);
-    lines::checksum(b"expected checksum ", behind.expected);
-    entry::print(text, packets::last_address(script));
+pub fn passed(rt: &impl System, script: &[u8], text: &[u8], behind: Behind) -> io::Result<()> {
+    Line::new().text(b"pass").print(rt)?;
+    lines::number(rt, b"packets ", behind.packets)?;
+    lines::checksum(rt, b"expected checksum ", behind.expected)?;
+    entry::print(rt, text, packets::last_address(script))?;
     Line::new()
         .text(
             b"after a power cut: send 31; if the card answers 02, send 32; then send the whole script again",
         )
-        .print();
+        .print(rt)
 }
 
 // Says how many bytes were still unknown where a run ended. A refusal before the run leaves nothing to say.
-fn unknown(refusal: Refusal, bytes: usize) {
-    match refusal {
-        Refusal::PacketCut
-        | Refusal::RefusedOverZeros
-        | Refusal::PictureDiffers
-        | Refusal::BytesAfterStart
-        | Refusal::NotStarted => lines::number(b"bytes still unknown ", bytes),
-        _ => {}
+fn unknown(rt: &impl Print, spot: Spot, bytes: usize) -> io::Result<()> {
+    match spot {
+        Spot::BeforeRun { is_in_text: _ } => Ok(()),
+        _ => lines::number(rt, b"bytes still unknown ", bytes),
     }
 }
 
 // Says that a script is refused: why, where, what the loader answers there over the region that the check left, how
 // many packets succeeded, and how many bytes were still unknown.
 pub fn refused(
+    rt: &impl Print,
     script: &[u8],
     text: &[u8],
     password: &[u8],
@@ -108,11 +141,12 @@ pub fn refused(
     at: usize,
     behind: Behind,
     region: &mut [u8],
-) {
-    cause::refused(refusal);
-    located(script, text, refusal, at, behind.packets);
+) -> io::Result<()> {
+    let spot = spot_of(&refusal);
+    cause::refused(rt, refusal)?;
+    located(rt, script, text, spot, at, behind.packets)?;
     let packet = packets::packet_at(script, at);
-    explained(refusal, packet, password, behind, region);
-    lines::number(b"packets that succeeded ", behind.packets);
-    unknown(refusal, behind.unknown);
+    explained(rt, spot, packet, password, behind, region)?;
+    lines::number(rt, b"packets that succeeded ", behind.packets)?;
+    unknown(rt, spot, behind.unknown)
 }

@@ -2,6 +2,7 @@
 use byte_parts::line_of;
 use refusal::Refusal;
 use report::Line;
+use std::io;
 
 // A line with the cause of a refusal after it, by its number: the words of document 01's table, a line for each number
 // from 1 on. Number 9 is no refusal's: it is out of the table, and the lines behind it keep their places.
@@ -32,10 +33,10 @@ text or script is too long
 }
 
 // Says that something is refused: the number, and the cause in words.
-pub fn refused(refusal: Refusal) {
+pub fn refused(rt: &impl Print, refusal: Refusal) -> io::Result<()> {
     let number = refusal::number(refusal) as usize;
     let line = Line::new().text(b"refused ").decimal(number).text(b": ");
-    cause(line, number).print();
+    cause(line, number).print(rt)
 }
 
 // A line that begins with a place, in decimal and hex.

@@ -1,5 +1,6 @@
 // The address at which a script starts the firmware.
-use report::Line;
+use report::{Line, System};
+use std::io;
 use text_cursor::{Cursor, Token};
 
 // Whether the image of a text has a byte at an address. Each token takes at least one byte of the text.
@@ -32,13 +33,14 @@ fn gives(text: &[u8], wanted: u64) -> bool {
 }
 
 // Says the entry address, and warns where the image of a text has no byte there: a card would start at erased flash.
-pub fn print(text: &[u8], address: usize) {
-    Line::new().text(b"entry ").hex(address).print();
+pub fn print(rt: &impl System, text: &[u8], address: usize) -> io::Result<()> {
+    Line::new().text(b"entry ").hex(address).print(rt)?;
     if gives(text, address as u64) {
-        return;
+        return Ok(());
     }
     Line::new()
         .text(b"cardtool: warning: the image gives no byte at the entry ")
         .hex(address)
-        .complain();
+        .complain(rt);
+    Ok(())
 }

@@ -5,6 +5,7 @@ ghost use Rattle.std.specs.Prelude.{◌≤◌};
 use crate::cause;
 use refusal::Refusal;
 use report::Line;
+use std::io;
 
 // A line of a text: its number, from 1, and where it starts.
 #[derive(Drop)]
@@ -47,48 +48,55 @@ fn shown(b: u8) -> u8 {
 }
 
 // Prints a line of the text, as far as it is shown.
-fn print_line(words: &[u8]) {
+fn print_line(rt: &impl Print, words: &[u8]) -> io::Result<()> {
     let mut line = Line::new().text(b"  ");
     let part = byte_parts::front(words, SHOWN);
     for i in 0..part.len() {
         line = line.byte(shown(part[i]));
     }
-    line.print();
+    line.print(rt)
 }
 
 // Prints a mark below a column of a line that is shown as far as that.
-fn print_mark(column: usize) {
+fn print_mark(rt: &impl Print, column: usize) -> io::Result<()> {
     if SHOWN < column {
-        return;
+        return Ok(());
     }
-    Line::new().to(column + 2).text(b"^").print();
+    Line::new().to(column + 2).text(b"^").print(rt)
 }
 
 // Says where a place of a text stands.
-fn in_text(text: &[u8], place: usize) {
+fn in_text(rt: &impl Print, text: &[u8], place: usize) -> io::Result<()> {
     let at = position_of(text, place);
     let column = place - at.start;
     let line = cause::place(place)
         .text(b": line ")
         .decimal(at.line)
         .text(b", column ");
-    line.decimal(column % 4294967296 + 1).print();
-    print_line(byte_parts::line_at(text, at.start));
-    print_mark(column);
+    line.decimal(column % 4294967296 + 1).print(rt)?;
+    print_line(rt, byte_parts::line_at(text, at.start))?;
+    print_mark(rt, column)
 }
 
-// Says what stands at the place of a refusal, for those that a text gets and those without a place.
-pub fn located(text: &[u8], refusal: Refusal, at: usize) {
+// Whether a refusal stands at a place of the text.
+pub fn is_in_text(refusal: &Refusal) -> bool {
     match refusal {
-        Refusal::TextMalformed | Refusal::AddressOutside | Refusal::AddressRepeated => in_text(
-            text, at,
-        ),
-        _ => cause::place(at).print(),
+        Refusal::TextMalformed | Refusal::AddressOutside | Refusal::AddressRepeated => true,
+        _ => false,
     }
 }
 
+// Says what stands at the place of a refusal, whether that is one of the text or none.
+pub fn located(rt: &impl Print, text: &[u8], is_in_text: bool, at: usize) -> io::Result<()> {
+    if is_in_text {
+        return in_text(rt, text, at);
+    }
+    cause::place(at).print(rt)
+}
+
 // Says that a text is refused, why, and where.
-pub fn refused(text: &[u8], refusal: Refusal, at: usize) {
-    cause::refused(refusal);
-    located(text, refusal, at);
+pub fn refused(rt: &impl Print, text: &[u8], refusal: Refusal, at: usize) -> io::Result<()> {
+    let is_in_text = is_in_text(&refusal);
+    cause::refused(rt, refusal)?;
+    located(rt, text, is_in_text, at)
 }

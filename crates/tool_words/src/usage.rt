@@ -1,12 +1,11 @@
 // How the program is used, and its version.
 use arguments::Command;
-use libc::{STDERR_FILENO, STDOUT_FILENO};
+use report::System;
+use std::io;
 
-// Writes the usage.
-fn print(to: i32) {
-    io::write_all(
-        to,
-        b"usage: cardtool plan FIRMWARE.txt SCRIPT.bsx [--password FILE] [--entry HEX] [--size BYTES] [--force]
+// The usage.
+fn usage() -> &'static [u8] {
+    b"usage: cardtool plan FIRMWARE.txt SCRIPT.bsx [--password FILE] [--entry HEX] [--size BYTES] [--force]
        cardtool check SCRIPT.bsx FIRMWARE.txt [--password FILE] [--size BYTES] [--expect HEX]
        cardtool cuts SCRIPT.bsx FIRMWARE.txt [--region FILE] [--password FILE] [--size BYTES] [--expect HEX]
        cardtool show SCRIPT.bsx
@@ -36,18 +35,18 @@ record   prints a sensor record of 64 bytes
 An option's value may follow an equals sign: --size=4096.
 
 Exit status: 0 pass or success, 1 refused, 2 wrong usage, or a file that cannot be read or written.
-",
-    );
+"
 }
 
 // Answers a command about the program itself: the usage or the version, or the usage where no command was given.
-pub fn answer(command: Command) {
+pub fn answer(rt: &impl System, command: Command) -> io::Result<()> {
     match command {
-        Command::Version => {
-            io::write_all(STDOUT_FILENO, b"cardtool 0.4.0\n");
+        Command::Version => rt.write_all(b"cardtool 0.4.0\n"),
+        Command::Help => rt.write_all(usage()),
+        Command::Wrong => {
+            rt.complain(usage());
+            Ok(())
         }
-        Command::Help => print(STDOUT_FILENO),
-        Command::Wrong => print(STDERR_FILENO),
-        _ => {}
+        _ => Ok(()),
     }
 }
