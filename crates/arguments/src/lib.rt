@@ -100,6 +100,9 @@ pub fn put_name(rt: &impl Env, name: Name, room: &mut [u8]) -> usize {
 // Puts at the start of a room the path of a link to the file of a name, which the launcher lends where the name, or one to
 // which it leads, is not UTF-8, as a path has to be. The answer is its length, 0 where none is lent.
 pub fn put_link(rt: &impl Env, name: Name, room: &mut [u8]) -> usize {
+    if name.argument == 0 {
+        return 0;
+    }
     let variable = Line::new()
         .text(b"CARDTOOL_LINK_")
         .decimal(name.argument)

@@ -7,8 +7,7 @@ use byte_parts::front;
 use little_endian::byte_at;
 use std::fmt::Write;
 use std::rt::HostRuntime;
-use std::str;
-use std::{fmt, io, process};
+use std::{fmt, io, process, str};
 
 // The most bytes of a line.
 const ROOM: usize = 256;
