@@ -16,31 +16,6 @@ pub struct Behind {
     pub expected: u16,
 }
 
-// Where a refusal stands.
-#[derive(Clone, Copy)]
-enum Spot {
-    // At a packet that the loader refuses over zeros.
-    OverZeros,
-    // At another packet of the script.
-    Packet,
-    // At the end of the script.
-    End,
-    // At a place of the firmware text, or at none: it was judged before the run.
-    BeforeRun { is_in_text: bool },
-}
-
-// Where a refusal stands.
-fn spot_of(refusal: &Refusal) -> Spot {
-    match refusal {
-        Refusal::RefusedOverZeros => Spot::OverZeros,
-        Refusal::PacketCut | Refusal::PictureDiffers | Refusal::BytesAfterStart => Spot::Packet,
-        Refusal::NotStarted => Spot::End,
-        other => Spot::BeforeRun {
-            is_in_text: place::is_in_text(other),
-        },
-    }
-}
-
 // A loader behind the packets of a run, none of which started the firmware: where one has succeeded it is
 // unlocked, as a locked one takes the password only.
 fn loader_behind(behind: Behind) -> Loader {
@@ -80,30 +55,34 @@ fn located(
     rt: &impl Print,
     script: &[u8],
     text: &[u8],
-    spot: Spot,
+    refusal: Refusal,
     at: usize,
     packets: usize,
 ) -> io::Result<()> {
-    match spot {
-        Spot::OverZeros | Spot::Packet => in_script(script, at, packets).print(rt),
-        Spot::End => cause::place(at).text(b": the end of the script").print(rt),
-        Spot::BeforeRun { is_in_text } => place::located(rt, text, is_in_text, at),
+    match refusal {
+        Refusal::PacketCut
+        | Refusal::RefusedOverZeros
+        | Refusal::PictureDiffers
+        | Refusal::BytesAfterStart => in_script(script, at, packets).print(rt),
+        Refusal::NotStarted => cause::place(at).text(b": the end of the script").print(rt),
+        _ => place::located(rt, text, refusal, at),
     }
 }
 
 // Says why a packet is refused over a region: what the loader answers to it there.
 fn explained(
     rt: &impl Print,
-    spot: Spot,
+    refusal: Refusal,
     packet: &[u8],
     password: &[u8],
     behind: Behind,
     region: &mut [u8],
 ) -> io::Result<()> {
-    match spot {
-        Spot::OverZeros => {
+    match refusal {
+        Refusal::RefusedOverZeros => {
             let received = loader::receive(loader_behind(behind), region, password, packet);
-            answered(rt, received.reply)
+            let reply = received.reply;
+            answered(rt, reply)
         }
         _ => Ok(()),
     }
@@ -123,10 +102,14 @@ pub fn passed(rt: &impl System, script: &[u8], text: &[u8], behind: Behind) -> i
 }
 
 // Says how many bytes were still unknown where a run ended. A refusal before the run leaves nothing to say.
-fn unknown(rt: &impl Print, spot: Spot, bytes: usize) -> io::Result<()> {
-    match spot {
-        Spot::BeforeRun { is_in_text: _ } => Ok(()),
-        _ => lines::number(rt, b"bytes still unknown ", bytes),
+fn unknown(rt: &impl Print, refusal: Refusal, bytes: usize) -> io::Result<()> {
+    match refusal {
+        Refusal::PacketCut
+        | Refusal::RefusedOverZeros
+        | Refusal::PictureDiffers
+        | Refusal::BytesAfterStart
+        | Refusal::NotStarted => lines::number(rt, b"bytes still unknown ", bytes),
+        _ => Ok(()),
     }
 }
 
@@ -142,11 +125,10 @@ pub fn refused(
     behind: Behind,
     region: &mut [u8],
 ) -> io::Result<()> {
-    let spot = spot_of(&refusal);
     cause::refused(rt, refusal)?;
-    located(rt, script, text, spot, at, behind.packets)?;
+    located(rt, script, text, refusal, at, behind.packets)?;
     let packet = packets::packet_at(script, at);
-    explained(rt, spot, packet, password, behind, region)?;
+    explained(rt, refusal, packet, password, behind, region)?;
     lines::number(rt, b"packets that succeeded ", behind.packets)?;
-    unknown(rt, spot, behind.unknown)
+    unknown(rt, refusal, behind.unknown)
 }

@@ -78,25 +78,18 @@ fn in_text(rt: &impl Print, text: &[u8], place: usize) -> io::Result<()> {
     print_mark(rt, column)
 }
 
-// Whether a refusal stands at a place of the text.
-pub fn is_in_text(refusal: &Refusal) -> bool {
+// Says what stands at the place of a refusal, for those that a text gets and those without a place.
+pub fn located(rt: &impl Print, text: &[u8], refusal: Refusal, at: usize) -> io::Result<()> {
     match refusal {
-        Refusal::TextMalformed | Refusal::AddressOutside | Refusal::AddressRepeated => true,
-        _ => false,
+        Refusal::TextMalformed | Refusal::AddressOutside | Refusal::AddressRepeated => in_text(
+            rt, text, at,
+        ),
+        _ => cause::place(at).print(rt),
     }
-}
-
-// Says what stands at the place of a refusal, whether that is one of the text or none.
-pub fn located(rt: &impl Print, text: &[u8], is_in_text: bool, at: usize) -> io::Result<()> {
-    if is_in_text {
-        return in_text(rt, text, at);
-    }
-    cause::place(at).print(rt)
 }
 
 // Says that a text is refused, why, and where.
 pub fn refused(rt: &impl Print, text: &[u8], refusal: Refusal, at: usize) -> io::Result<()> {
-    let is_in_text = is_in_text(&refusal);
     cause::refused(rt, refusal)?;
-    located(rt, text, is_in_text, at)
+    located(rt, text, refusal, at)
 }
