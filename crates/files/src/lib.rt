@@ -100,12 +100,16 @@ fn read_all(rt: &impl Files, path: &[u8], room: &mut [u8]) -> io::Result<usize> 
     Ok(held)
 }
 
-// Puts the path at which the file of a name is found at the start of a room: that of a link which is lent, or the name. The
-// answer is its length, 0 where there is none.
+// Puts the path at which the file of a name is found at the start of a room: the name, or that of a link which is lent where
+// the name is not UTF-8. The answer is its length, 0 where there is none.
 fn put_path(rt: &impl Env, name: Name, room: &mut [u8]) -> usize {
-    let n = arguments::put_link(rt, name, room);
-    if n != 0 {
+    let n = arguments::put_name(rt, name, room);
+    if let Ok(_) = tool_paths::text(front(room, n)) {
         return n;
+    }
+    let m = arguments::put_link(rt, name, room);
+    if m != 0 {
+        return m;
     }
     arguments::put_name(rt, name, room)
 }
@@ -151,7 +155,7 @@ pub fn save(
     }
     let mut link = [0u8; PATH_MAX];
     let m = arguments::put_link(rt, to, &mut link);
-    if m != 0 {
+    if m != 0 && !new::leads_in_text(rt, path) {
         return new::put_beside(rt, path, front(&link, m), bytes, rule);
     }
     if !standing::is_free(rt, path, path, rule) {

@@ -233,6 +233,15 @@ pub fn put_in_place(
     put_at_place(rt, place, bytes, rule)
 }
 
+// Whether a path and all to which it leads by links are UTF-8, so that a file can be put there by its own name.
+pub fn leads_in_text(rt: &(impl Files + Alloc), path: &[u8]) -> bool {
+    let mut room = [0u8; PATH_MAX];
+    match resolve(rt, path, &mut room) {
+        Ok(_) => true,
+        Err(_) => false,
+    }
+}
+
 // Puts bytes into a new file beside a link which is lent, if the file to which it leads may be replaced. The launcher then
 // gives it that file's name. The answer is whether it is made; where not, that is said, by a name of the file.
 pub fn put_beside(

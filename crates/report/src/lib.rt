@@ -138,10 +138,10 @@ impl Line {
         self.text(b"0x").code(n, 1)
     }
 
-    // The line with a number behind it in at least so many hexadecimal digits.
+    // The line with a number behind it in at least so many hexadecimal digits, at most 16.
     pub fn code(self, n: usize, least: usize) -> Line {
         let digits = hex_digits(n);
-        self.repeat(b'0', less(least, digits.held))
+        self.repeat(b'0', less(least.min(16), digits.held))
             .text(digits.words())
     }
 
