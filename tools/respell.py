@@ -57,10 +57,10 @@ def main():
                 m = SIGNATURE.match(line)
                 if m and CAMEL.search(m.group(1)) and m.group(1)[0].islower() and m.group(1) not in table:
                     table[m.group(1)] = snake(m.group(1))
-    antt = [WORD.findall(text) for path, text in texts.items() if path.endswith(".antt")]
-    defined = {SIGNATURE.match(line).group(1) for path, text in texts.items() if path.endswith(".antt") for line in text.splitlines() if SIGNATURE.match(line)}
+    lines = [line for path, text in texts.items() if path.endswith(".antt") for line in text.splitlines()]
+    defined = {m.group(1) for m in map(SIGNATURE.match, lines) if m}
     together = sorted(new for old, new in table.items() if new in defined and new not in BEFORE)
-    if together or not antt:
+    if together:
         print("respell: these would fall together with a name that stands: " + ", ".join(together), file=sys.stderr)
         return 1
 
