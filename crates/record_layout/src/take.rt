@@ -1,7 +1,8 @@
 // The parts of the values in 87 bytes. A part that stands at several places asks that its bytes are inside, since it
 // takes them by index.
 ghost use Rattle.std.specs.Prelude.{◌≡◌, ◌+◌, ◌≤◌};
-ghost use Rattle.record_layout.specs.Reading.{status_in, flash_in, security_in, sensors_in, device_status_in, device_in, module_status_in, module_in};
+ghost use Rattle.record_layout.specs.Reading.{status_in, flash_in, security_in, sensors_in};
+ghost use Rattle.record_layout.specs.Reading.{device_status_in, device_in, module_status_in, module_in};
 
 use little_endian::Number;
 use sensor_values::{

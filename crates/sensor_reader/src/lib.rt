@@ -3,8 +3,8 @@
 #![tactic(auto)]
 
 ghost use Rattle.std.specs.Prelude.{◌≡◌, ◌+◌, ◌≤◌, ◌<◌};
-ghost use Rattle.sensor_values.specs.Reading.{◌bits◌to◌, flash_of, status_of, security_of, device_status_of, module_status_of, input_of, sensors_of, errors_of};
-ghost use Rattle.sensor_values.specs.Reading.{device_of, module_of, record_of, reserved_zero};
+ghost use Rattle.sensor_values.specs.Reading.{◌bits◌to◌, status_of, flash_of, security_of, device_status_of, module_status_of};
+ghost use Rattle.sensor_values.specs.Reading.{input_of, sensors_of, errors_of, device_of, module_of, record_of, reserved_zero};
 
 use little_endian::Number;
 use sensor_values::{

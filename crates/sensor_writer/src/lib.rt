@@ -35,7 +35,6 @@ fn input_bytes(i: InputSensor) -> [u8; 4]
 
 // The 16 bytes of the board's sensors, by value: every layout of the values in which they stand so stores
 // them at its own place.
-#[tactic(auto, unfolding(sensor_values::specs::Layout::sensor_bytes, sensor_values::specs::Layout::input_bytes, little_endian::specs::Bytes::stored_at))]
 pub fn sensor_bytes(s: BoardSensors) -> [u8; 16]
     ensures { result ≡ sensor_bytes s }
 {

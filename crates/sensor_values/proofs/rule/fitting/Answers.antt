@@ -21,4 +21,7 @@ each [] = refl
 each (f ∷ fs) = rw (each fs) refl
 
 pub returns : goal.returns
-returns c = all_from_yields_List fits _ _ _ c.all.ensures.ran (YieldsList-from_slice c.args.bits.now cc) (λ x b q k. search (rules, tests)) ∙ each c.args.bits.now
+returns c =
+    all_from_yields_List fits _ _ _ c.all.ensures.ran (YieldsList-from_slice c.args.bits.now cc)
+    (λ x b q k. search (rules, tests))
+    ∙ each c.args.bits.now

@@ -16,4 +16,7 @@ each [] = refl
 each (n ∷ ns) = rw (each ns) refl
 
 pub returns : goal.returns
-returns c = all_from_yields_List (λ n. eqb n 0) _ _ _ c.all.ensures.ran (YieldsList-from_slice c.args.numbers.now cc) (λ x b q k. search (rules, tests)) ∙ each c.args.numbers.now
+returns c =
+    all_from_yields_List (λ n. eqb n 0) _ _ _ c.all.ensures.ran (YieldsList-from_slice c.args.numbers.now cc)
+    (λ x b q k. search (rules, tests))
+    ∙ each c.args.numbers.now
