@@ -10,6 +10,8 @@ ghost use Rattle.little_endian.specs.Bytes.{stored_at};
 ghost use Rattle.packet.specs.Packet.{core_length, core_of, carried, acknowledgement_of, command_of};
 ghost use Rattle.packet.specs.Packet.{address_of, range_length_of, packet_of, written, write_of};
 
+use little_endian::Number;
+
 // The greatest core length.
 const LONGEST_CORE: usize = 261;
 
@@ -44,32 +46,21 @@ pub enum Command {
 pub fn core_length(message: &[u8]) -> usize
     ensures { (result ≡ core_length message.now) × (result < 65536) }
 {
-    little_endian::two_at(message, 1) as usize
+    u16::number_at(message, 1) as usize
 }
 
 // The core of a message, as far as the message goes.
 pub fn core(message: &[u8]) -> &[u8]
     ensures { result.now ≡ core_of message.now }
 {
-    let held = message.len();
-    if held < 3 {
-        return &message[held..];
-    }
-    let end = 3 + core_length(message);
-    if held < end {
-        return &message[3..];
-    }
-    &message[3..end]
+    byte_parts::front(byte_parts::behind(message, 3), core_length(message))
 }
 
-// Whether a message that is as long as it states carries the checksum of its core.
+// Whether a message carries the checksum of its core.
 fn sum_right(message: &[u8]) -> bool
-    requires { length message.now ≡ core_length message.now + 5 }
     ensures { result ≡ eqb (carried message.now) (checksum_of (core_of message.now)) }
 {
-    let end = 3 + core_length(message);
-    let sum = crc::checksum(crc::START, &message[3..end]);
-    little_endian::two_at(message, end) == sum
+    u16::number_at(message, 3 + core_length(message)) == crc::checksum(crc::START, core(message))
 }
 
 // The byte that answers a message: its first fault, or `ACKNOWLEDGED`.
@@ -118,14 +109,14 @@ pub fn command_of(core: &[u8]) -> Command
 pub fn address(core: &[u8]) -> usize
     ensures { (result ≡ address_of core.now) × (result < 4294967296) }
 {
-    little_endian::four_at(core, 1) as usize
+    u32::number_at(core, 1) as usize
 }
 
 // The length that a range checksum's core asks for.
 pub fn range_length(core: &[u8]) -> usize
     ensures { (result ≡ range_length_of core.now) × (result < 65536) }
 {
-    little_endian::two_at(core, 5) as usize
+    u16::number_at(core, 5) as usize
 }
 
 // A packet around a core of at most 261 bytes, over the front of a buffer that has the room. The length of a full block
@@ -136,9 +127,9 @@ fn wrap(core: &[u8], out: &mut [u8])
 {
     let n = core.len();
     little_endian::store(&[HEADER], 0, out);
-    little_endian::store_two(n as u16, 1, out);
+    (n as u16).store_at(1, out);
     little_endian::store(core, 3, out);
-    little_endian::store_two(crc::checksum(crc::START, core), 3 + n, out);
+    crc::checksum(crc::START, core).store_at(3 + n, out);
 }
 
 // A packet around a core, over the front of a buffer. The answer is false, and the buffer as it

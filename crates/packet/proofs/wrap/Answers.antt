@@ -15,8 +15,8 @@ returns c =
     let core = a.core.now in
     let n = length core in
     let first = c.store.ensures in
-    let second = c.store_two.ensures ∙ ap (stored_at 1 (little_endian 2 n)) first in
+    let second = c.store_at.ensures ∙ ap (stored_at 1 (little_endian 2 n)) first in
     let third = c.store-2.ensures ∙ ap (stored_at 3 core) second in
-    c.store_two-2.ensures
+    c.store_at-2.ensures
     ∙ ap₂ (λ (sum : ℕ) (old : List ℕ). stored_at (3 + n) (little_endian 2 sum) old) c.checksum.ensures third
     ∙ packet-stored core a.out.now (omega arith)
