@@ -11,7 +11,7 @@ use sensor_values::{
     BitField, BoardSensors, Device, ErrorCounters, InputSensor, NetworkModule, SensorRecord,
 };
 
-// Bit fields in one number, the first lowest. Nothing is asked of a field but that the number fits.
+// Bit fields in one number, the first lowest. It calls itself as the definition does, over twelve fields at most.
 fn packed(fields: &[BitField]) -> u32
     requires { packed fields.now < 2 ^ 32 }
     ensures { result ≡ packed fields.now }
@@ -64,6 +64,7 @@ pub fn error_bytes(e: ErrorCounters) -> [u8; 10]
     out
 }
 
+// A device and a module ask for their room, since a part that does not fit whole is not stored.
 fn device(d: Device, at: usize, out: &mut [u8])
     requires { at + 13 ≤ length out.old }
     ensures { out.new ≡ stored_at at (device_bytes d) out.old }
@@ -83,6 +84,7 @@ fn module(m: NetworkModule, at: usize, out: &mut [u8])
     ensures { out.new ≡ stored_at at (module_bytes m) out.old }
 {
     little_endian::store(&[temperature::to_byte(m.temperature)], at, out);
+    // The two low bytes, for the same reason as a device's one.
     let status = (packed(&m.status.bits()) % 65536) as u16;
     status.store_at(at + 1, out);
 }

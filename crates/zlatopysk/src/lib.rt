@@ -22,7 +22,6 @@ ghost use Rattle.zlatopysk.specs.Lent.{card_of, call_left, cut_left, restart_lef
 use application::Version;
 use card::Card;
 use loader::Loader;
-use sensor_record::{ReadRecord, WroteRecord};
 
 // The register from a start over bytes: with the start 0xFFFF their checksum.
 #[unsafe(no_mangle)]
@@ -182,13 +181,11 @@ pub extern "C" fn zlatopysk_read_record(bytes: &[u8], record: &mut [u8; 87], ans
         ≡ held_left (records.read_of bytes.now) «record».old }
 {
     match sensor_record::read(bytes) {
-        ReadRecord::Refused(why) => {
-            *answer = numbers::refused(why, 0, 0);
-        }
-        ReadRecord::Held(values) => {
+        Ok(values) => {
             *record = record_layout::bytes(values);
-            *answer = [0, 0, 0];
+            *answer = [0; 3];
         }
+        Err(why) => *answer = numbers::refused(why, 0, 0),
     }
 }
 
@@ -199,14 +196,10 @@ pub extern "C" fn zlatopysk_write_record(record: &[u8; 87], out: &mut [u8], answ
         ≡ written_left (records.write_of (values_in «record».now) out.old) }
 {
     let values = record_layout::values(record);
-    match sensor_record::write(values, out) {
-        WroteRecord::Refused(why) => {
-            *answer = numbers::refused(why, 0, 0);
-        }
-        WroteRecord::Written => {
-            *answer = [0, 0, 0];
-        }
-    }
+    *answer = match sensor_record::write(values, out) {
+        Ok(()) => [0; 3],
+        Err(why) => numbers::refused(why, 0, 0),
+    };
 }
 
 // Total power in watts from the raw 12 V readings.
