@@ -30,7 +30,8 @@ pub fn allows(new: &[u8], address: usize, region: &[u8]) -> bool
     is_inside(address, n, region.len()) && is_writable(&region[address..address + n], new)
 }
 
-// A write. The answer is false, and the region as it was, if the region does not allow the new bytes.
+// A write. The answer is false, and the region as it was, if the region does not allow the new bytes. It stays a bool: no
+// value goes with it.
 #[tactic(auto, unfolding(crate::specs::Flash::write_of))]
 pub fn write(new: &[u8], address: usize, region: &mut [u8]) -> bool
     ensures { written result region.new ≡ write_of new.now address region.old }

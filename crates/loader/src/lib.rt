@@ -50,7 +50,7 @@ pub enum Reply {
     Data(u16),
 }
 
-// What a message leaves of the loader's part of the state, and the reply to it.
+// What a message leaves of the loader's part of the state, handed back by value, and the reply to it.
 #[derive(Clone, Copy)]
 pub struct Received {
     pub loader: Loader,

@@ -133,7 +133,7 @@ fn wrap(core: &[u8], out: &mut [u8])
 }
 
 // A packet around a core, over the front of a buffer. The answer is false, and the buffer as it
-// was, if the core is not 1 to 261 bytes or the buffer is shorter than the packet.
+// was, if the core is not 1 to 261 bytes or the buffer is shorter than the packet. It stays a bool: no value goes with it.
 #[tactic(auto, unfolding(crate::specs::Packet::write_of))]
 pub fn write(core: &[u8], out: &mut [u8]) -> bool
     ensures { written result out.new ≡ write_of core.now out.old }

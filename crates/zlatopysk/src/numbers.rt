@@ -57,7 +57,7 @@ pub fn of_check(checked: Checked) -> [u64; 4]
     }
 }
 
-// A number other than 0, 1 and 2 counts as locked.
+// The C interface has modes as numbers; one other than 0, 1 and 2 counts as locked.
 #[tactic(auto, unfolding(crate::specs::Numbers::mode_of))]
 pub fn mode_of(number: u8) -> Mode
     ensures { result ≡ mode_of number }
