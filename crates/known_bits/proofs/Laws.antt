@@ -13,6 +13,7 @@ use lib.Count.{ones, ones_step}
 use lib.Dec.{eqb, leb, ltb}
 use lib.ListN.{length, get_or, take, drop, replicate, length-replicate, length-drop, get_or-replicate}
 use lib.Seq.{get_or-take, get_or-drop, length-take-le}
+use Rattle.std.proofs.lemmas.List.Sums.{sum_by-cons}
 use Rattle.address_set.specs.Bits.{marked}
 use Rattle.little_endian.specs.Bytes.{Bytes, stored_at}
 use Rattle.little_endian.proofs.Stored.{stored-length, stored-inside, stored-outside}
@@ -93,7 +94,7 @@ knows-behind b known z f k =
 
 -- the places where two buffers differ, and those that are known, are all
 unknown-places : (known z f : List ℕ) → Bytes known → Knows z f known → differ z f + count_of known ≡ length z
-unfolding count_of differ
+unfolding differ
 unknown-places [] z f bytes k = omega (arith, none z k.sized, k.sized)
   where
     none : (z : List ℕ) → length z ≡ 0 → differ z f ≡ 0
@@ -107,7 +108,7 @@ unknown-places (b ∷ known) z f bytes k =
     (λ j h. sym (first_bit b known j h) ∙ k.bits j (omega (arith, n, h)) ∙ ap₂ eqb (sym (get_or-take 8 z j 0 h))
     (sym (get_or-take 8 f j 0 h))) in
     let rest = unknown-places known (drop 8 z) (drop 8 f) (λ i. bytes (suc i)) (knows-behind b known z f k) in
-    omega (arith, differ-parts 8 z f, first, rest, length-drop 8 z, n)
+    omega (arith, differ-parts 8 z f, first, rest, length-drop 8 z, n, sum_by-cons ones b known)
 
 -- ---- what the packets do to them
 
