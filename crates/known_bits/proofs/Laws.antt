@@ -9,7 +9,7 @@ use Prim.Native.Nat.{suc-le-suc}
 use Rattle.address_set.proofs.Maps.{unmarked}
 use native.Mathlib.Omega.{arith}
 use borrow.Author.Tests.{eqb-true, eqb-false, eq-eqb, ne_eqb, le-ltb, ltb-true, ltb-false, leb-true}
-use lib.Count.{ones, ones_step}
+use lib.Count.{ones, ones_step, ones-le}
 use lib.Dec.{eqb, leb, ltb}
 use lib.ListN.{length, get_or, take, drop, replicate, length-replicate, length-drop, get_or-replicate}
 use lib.Seq.{get_or-take, get_or-drop, length-take-le}
@@ -24,13 +24,6 @@ use Rattle.known_bits.proofs.Ranges.{range-adds}
 
 -- ---- counting
 
-no_ones : (n : ℕ) → n < 1 → ones n ≡ 0
-unfolding ones
-no_ones n small = ap ones (zero_of n small)
-  where
-    zero_of : (n : ℕ) → n < 1 → n ≡ 0
-    zero_of n h = omega (arith, h)
-
 -- the lowest bit of a number, as a place that differs or not
 low_bit : (r : ℕ) (t : Bool) → r < 2 → eqb r 1 ≡ t → cond t 0 1 + r ≡ 1
 low_bit r true small e = omega (arith, eqb-true r 1 e)
@@ -40,7 +33,7 @@ low_bit r false small e = let other : r ≡ 1 → ⊥ = eqb-false r 1 e in omega
 bits-differ : (k n : ℕ) (z f : List ℕ) → length z ≡ k → length f ≡ k → n < 2 ^ k
     → ((j : ℕ) → j < k → eqb (n / 2 ^ j % 2) 1 ≡ eqb (get_or z j 0) (get_or f j 0)) → differ z f + ones n ≡ k
 unfolding differ
-bits-differ zero n [] f lz lf small bit = omega (arith, no_ones n small)
+bits-differ zero n [] f lz lf small bit = omega (arith, ones-le 0 n small)
 bits-differ zero n (x ∷ z) f lz lf small bit = absurd (omega (arith, lz))
 bits-differ (suc k) n [] f lz lf small bit = absurd (omega (arith, lz))
 bits-differ (suc k) n (x ∷ z) [] lz lf small bit = absurd (omega (arith, lf))

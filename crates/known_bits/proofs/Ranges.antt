@@ -5,34 +5,15 @@ use mathlib.Core.Bool.{Bool, true, false, ◌&&◌, ◌||◌}
 use mathlib.Core.List.{List}
 use Prim.Native.Nat.{ℕ, ◌+◌, ◌*◌, ◌/◌, ◌%◌, ◌^◌, ◌-◌, ◌≤◌, ◌<◌}
 use native.Mathlib.Omega.{arith}
+use Rattle.std.proofs.Math.Bool.{or-false, and-false, or_assoc}
 use Rattle.std.proofs.lemmas.List.{places}
-use borrow.Author.Tests.{ltb-true, ltb-false, eqb-true, eqb-false, ne_eqb, lt-ltb, le-ltb, leb-true, leb-false, le-leb, lt-leb}
+use borrow.Author.Tests.{ltb-true, ltb-false, lt-ltb, le-ltb, leb-true, leb-false, le-leb, lt-leb}
 use lib.Dec.{eqb, leb, ltb}
 use lib.ListN.{length, get_or, replicate}
 use borrow.Rule.Slice.PartMut.{put_mid}
 use Rattle.address_set.specs.Bits.{marked}
 use Rattle.test_laws.proofs.Tests.{below}
 use Rattle.known_bits.specs.Known.{longest_map, between, Adds, has_range, WithRange}
-
-or-none : (t : Bool) → (t || false) ≡ t
-or-none true = refl
-or-none false = refl
-
-and_none : (t : Bool) → (t && false) ≡ false
-and_none true = refl
-and_none false = refl
-
-or_assoc : (a b c : Bool) → (a || (b || c)) ≡ ((a || b) || c)
-or_assoc true b c = refl
-or_assoc false b c = refl
-
--- no address is in an empty range
-between_none : (from a : ℕ) → between from from a ≡ false
-between_none from a = go (leb from a) refl
-  where
-    go : (t : Bool) → leb from a ≡ t → (t && ltb a from) ≡ false
-    go true e = le-ltb a from (leb-true from a e)
-    go false e = refl
 
 -- two ranges side by side are one
 between-joined : (from at end a : ℕ) → from ≤ at → at ≤ end → (between at end a || between from at a) ≡ between from end a
@@ -41,36 +22,16 @@ between-joined from at end a low high = go (leb at a) refl
     go : (t : Bool) → leb at a ≡ t → ((t && ltb a end) || between from at a) ≡ between from end a
     go true e =
         let past : at ≤ a = leb-true at a e in
-        rw (le-ltb a at past, le-leb from a (omega arith)) (or-none (ltb a end))
+        rw (le-ltb a at past, le-leb from a (omega arith)) (or-false (ltb a end))
     go false e =
         let before : a < at = leb-false at a e in
         rw (lt-ltb a at before, lt-ltb a end (omega arith)) refl
-
--- one address is a range
-between-one : (at a : ℕ) → between at (at + 1) a ≡ eqb a at
-between-one at a = go (leb at a) refl
-  where
-    go : (t : Bool) → leb at a ≡ t → (t && ltb a (at + 1)) ≡ eqb a at
-    go true e =
-        let past : at ≤ a = leb-true at a e in
-        is past (eqb a at) refl
-      where
-        is : at ≤ a → (t : Bool) → eqb a at ≡ t → ltb a (at + 1) ≡ t
-        is past true e = let same : a ≡ at = eqb-true a at e in lt-ltb a (at + 1) (omega (arith, same))
-        is past false e = let other : a ≡ at → ⊥ = eqb-false a at e in le-ltb a (at + 1) (omega (arith, other, past))
-    go false e =
-        let before : a < at = leb-false at a e in
-        sym (ne_eqb a at (λ (same : a ≡ at). omega (arith, same, before)))
-
--- nothing added
-pub adds_none : (from : ℕ) (map : List ℕ) → Adds from from map map
-adds_none from map a = ap (λ (t : Bool). t || marked map a) (sym (between_none from a))
 
 -- one range behind another
 pub adds-more : (from at end : ℕ) (old map new : List ℕ) → from ≤ at → at ≤ end → Adds from at old map → Adds at end map new
     → Adds from end old new
 adds-more from at end old map new low high before more a =
-    more a ∙ ap (λ (t : Bool). between at end a || t) (before a) ∙ or_assoc (between at end a) (between from at a) (marked old a)
+    more a ∙ ap (λ (t : Bool). between at end a || t) (before a) ∙ sym (or_assoc (between at end a) (between from at a) (marked old a))
     ∙ ap (λ (t : Bool). t || marked old a) (between-joined from at end a low high)
 
 -- the eight addresses of each of some bytes that become 0xFF: none, or those from the first of one byte on and below that of another
@@ -133,7 +94,7 @@ module _ (from n : ℕ) (old : List ℕ) where
 
   -- a range that goes past its end
   pub range-past : length old * 8 < from + n → has_range old from n ≡ false
-  range-past past = rw (lt-leb (from + n) (length old * 8) past) (and_none (leb (length old) longest_map))
+  range-past past = rw (lt-leb (from + n) (length old * 8) past) (and-false (leb (length old) longest_map))
 
   -- what the map does not have
   pub range-not : has_range old from n ≡ false → WithRange from n old old
@@ -141,7 +102,7 @@ module _ (from n : ℕ) (old : List ℕ) where
     sized = refl;
     bits =
         λ a. ap (λ (t : Bool). t || marked old a)
-        (sym (ap (λ (t : Bool). between from (from + n) a && t) e ∙ and_none (between from (from + n) a)));
+        (sym (ap (λ (t : Bool). between from (from + n) a && t) e ∙ and-false (between from (from + n) a)));
   }
 
   -- what it has

@@ -5,8 +5,9 @@
 #![tactic(auto)]
 
 ghost use Rattle.std.specs.Prelude.{◌≡◌, ◌*◌, ◌≤◌, length};
-ghost use Rattle.little_endian.specs.Bytes.{number_at};
 ghost use Rattle.known_bits.specs.Known.{longest_map, count_of, unknown_of, Adds, WithRange};
+
+use little_endian::Number;
 
 // The length of the longest map that a region has.
 const LONGEST: usize = 32768;
@@ -14,22 +15,12 @@ const LONGEST: usize = 32768;
 // The number of bytes of the greatest region, which is that of the longest map's bits.
 const GREATEST: usize = 262144;
 
-// The number of the eight bytes from a place on.
-fn word_at(map: &[u8], at: usize) -> u64
-    requires { at ≤ longest_map }
-    ensures { result ≡ number_at 8 at map.now }
-{
-    let low = little_endian::four_at(map, at);
-    let high = little_endian::four_at(map, at + 4);
-    low as u64 + 4294967296 * high as u64
-}
-
 // How many bits of a word, at most eight bytes, are set.
 fn word_ones(word: &[u8]) -> usize
     requires { length word.now ≤ 8 }
     ensures { result ≡ count_of word.now }
 {
-    word_at(word, 0).count_ones() as usize
+    u64::number_at(word, 0).count_ones() as usize
 }
 
 // How many bits of a map are set: the ones of each word of eight bytes are counted at once.

@@ -6,4 +6,4 @@ use Rattle.known_bits.proofs.Words.{word-count}
 use Rattle.known_bits.proofs.word_ones.Goals as goal
 
 pub returns : goal.returns
-returns c = ap ones c.word_at.ensures ∙ word-count c.args.word.now (λ i. (c.type_inv.word i).fits) c.requires
+returns c = ap ones c.number_at.ensures ∙ word-count c.args.word.now (λ i. (c.type_inv.word i).fits) c.requires
