@@ -5,7 +5,8 @@ use mathlib.Core.Bool.{Bool, true, false, cond}
 use mathlib.Core.List.{List, ◌∷◌}
 use Prim.Native.Nat.{ℕ, ◌+◌, ◌-◌, ◌*◌, ◌≤◌, ◌<◌}
 use native.Mathlib.Omega.{arith}
-use borrow.Author.Tests.{ltb-true, ltb-false}
+use borrow.Author.Tests.{eqb-true, eqb-false, ltb-true, ltb-false}
+use Rattle.std.specs.Prelude.{Some, None}
 use lib.Dec.{eqb, ltb}
 use lib.ListN.{length, take, drop, replicate, length-drop, length-replicate}
 use lib.Seq.{drop-drop, length-take-le}
@@ -18,7 +19,7 @@ use Rattle.loader.specs.Loader.{is_application}
 use Rattle.loader.specs.declared.Loader.{Loader}
 use Rattle.script.specs.Script.{frame_length, front_of, frames_of}
 use Rattle.script.proofs.Framing.{frames-end, frames-next, front_cut, front-inside, part-tail}
-use Rattle.checker.specs.Answers.{Tells, Follows}
+use Rattle.checker.specs.Answers.{ahead_of, Tells, Follows}
 
 module _ (password picture : List ℕ) (zeros ones : Trial) (at n : ℕ) (bytes : List ℕ) where
   -- no packet is left
@@ -81,12 +82,27 @@ pub record Ahead (script : List ℕ) (at k : ℕ) (started : Bool) : Type 0 wher
   pub fits : at + k ≤ length script
 
 pub ahead : (script : List ℕ) (at k : ℕ) (started : Bool) → at ≤ length script
-    → k ≡ cond started 0 (front_of (take (length script - at) (drop at script))) → (k ≡ 0 → ⊥)
-    → Ahead script at k started
-ahead script at k true inside e some = absurd (some e)
-ahead script at k false inside e some =
-    let w = front-inside script at k inside e some in
-    record { not-started = refl; is = w.0; fits = w.1 }
+    → Some k ≡ ahead_of started (take (length script - at) (drop at script)) → Ahead script at k started
+ahead script at k true inside e = absurd cc
+ahead script at k false inside e = go (eqb (front_of rest) 0) refl e
+  where
+    rest : List ℕ
+    rest = take (length script - at) (drop at script)
+
+    go : (t : Bool) → eqb (front_of rest) 0 ≡ t → Some k ≡ cond t None (Some (front_of rest)) → Ahead script at k false
+    go true h e = absurd cc
+    go false h e =
+        let is : k ≡ front_of rest = cc in
+        let w = front-inside script at k inside is (λ (z : k ≡ 0). eqb-false _ _ h (sym is ∙ z)) in
+        record { not-started = refl; is = w.0; fits = w.1 }
+
+-- where none is, though the firmware has not started, no whole one is left
+front_none : (rest : List ℕ) → None ≡ ahead_of false rest → front_of rest ≡ 0
+front_none rest e = go (eqb (front_of rest) 0) refl e
+  where
+    go : (t : Bool) → eqb (front_of rest) 0 ≡ t → None ≡ cond t None (Some (front_of rest)) → front_of rest ≡ 0
+    go true h e = eqb-true _ _ h
+    go false h e = absurd cc
 
 -- a walk in one region that has come to a place: beside it stands a run over 0xFF, of which the bits tell, and what is left to run in
 -- both gives the whole
@@ -128,10 +144,10 @@ module _ (whole : Checked) (password picture script : List ℕ) (zeros : Trial) 
       ∙ s.left
 
   -- no packet is run any more
-  pub stand-end : (started : Bool) → started ≡ is_application zeros.loader.mode → (k : ℕ) → k ≡ cond started 0 (front_of rest) → k ≡ 0
+  pub stand-end : (started : Bool) → started ≡ is_application zeros.loader.mode → None ≡ ahead_of started rest
       → (a : Said) → a ≡ end_of started rest at → found a n zeros s.ones ≡ whole
-  stand-end true is k front none a e = stand-over (sym is) a e
-  stand-end false is k front none a e = stand-cut (sym is) (sym front ∙ none) a e
+  stand-end true is none a e = stand-over (sym is) a e
+  stand-end false is none a e = stand-cut (sym is) (front_none rest none) a e
 
   module _ (k : ℕ) (started : Bool) (is : started ≡ is_application zeros.loader.mode) (w : Ahead script at k started) where
     -- the packet in both runs
