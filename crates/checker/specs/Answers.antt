@@ -1,6 +1,6 @@
 -- What the checker answers, in document 01's terms ("Scripts, planner, checker", "Refusal numbers") and T-09's.
 -- Assumes nothing.
-use Rattle.std.specs.Prelude.{Bool, cond, ◌||◌, List, ◌≡◌, ℕ, ◌≤◌, eqb, length, Option, Some, None, Result, Ok, Err}
+use Rattle.std.specs.Prelude.{List, ◌≡◌, ℕ, ◌≤◌, length, Result, Ok, Err}
 use Rattle.delivery.specs.Beside.{Beside}
 use Rattle.delivery.specs.Check.{Said, passed, refused, Trial}
 use Rattle.delivery.specs.Check as check
@@ -10,7 +10,6 @@ use Rattle.loader.specs.declared.Loader.{Loader}
 use Rattle.refusal.specs.Refusal.{number_of}
 use Rattle.refusal.specs.declared.Refusal.{Refusal}
 use Rattle.refusal.specs.declared.Refused.{Refused}
-use Rattle.script.specs.Script.{front_of}
 use Rattle.checker.specs.declared.Checked.{Checked}
 
 -- what was said, in these terms
@@ -31,10 +30,6 @@ fault_of (Ok next) = 0
 abbrev pub next_of : Result Loader Refusal → Loader → Loader
 next_of (Err why) loader = loader
 next_of (Ok next) loader = next
-
--- the length of the packet that is run next: none if the firmware has started, or no whole one is left
-abbrev pub ahead_of : (started : Bool) (rest : List ℕ) → Option ℕ
-ahead_of started rest = cond (started || eqb (front_of rest) 0) None (Some (front_of rest))
 
 -- a run in one region beside the two over 0x00 and over 0xFF: it is the run over 0x00, the other stands beside it, and the bits, no more
 -- than a region has, say where their buffers have the same byte

@@ -6,11 +6,11 @@
 // what is answered, which is what the runs over 0x00 and over 0xFF give (T-09), and what a pass is worth.
 #![tactic(auto)]
 
-ghost use Rattle.std.specs.Prelude.{◌≡◌, not, ◌&&◌, ◌*◌, ◌≤◌, eqb, length, replicate};
+ghost use Rattle.std.specs.Prelude.{◌≡◌, cond, not, ◌&&◌, ◌*◌, ◌≤◌, eqb, length, replicate, None};
 ghost use Rattle.firmware_text.specs.Machine.{image_of};
 ghost use Rattle.known_bits.specs.Known.{longest_map, unknown_of};
 ghost use Rattle.packet.specs.Packet.{core_of, command_of};
-ghost use Rattle.script.specs.Script.{longest_script};
+ghost use Rattle.script.specs.Script.{longest_script, front_of};
 ghost use Rattle.text_image.specs.Picture.{picture_of};
 ghost use Rattle.text_image.specs.Rules.{rules_of, sound};
 ghost use Rattle.ti_txt.specs.Answers.{is_picture_of};
@@ -18,7 +18,7 @@ ghost use Rattle.delivery.specs.Check.{Trial, trial, locked, begins_start, step_
 ghost use Rattle.delivery.specs.Beside.{Learns};
 ghost use Rattle.delivery.specs.Demand.{Upholds};
 ghost use Rattle.delivery.specs.OneRegion.{single, judged_one, one_of, LimitsOne};
-ghost use Rattle.checker.specs.Answers.{said, answered, fault_of, next_of, ahead_of, Tells, Follows};
+ghost use Rattle.checker.specs.Answers.{said, answered, fault_of, next_of, Tells, Follows};
 
 use loader::{Loader, Mode};
 use packet::Command;
@@ -105,15 +105,11 @@ fn run_packet(
     Ok(ran.loader)
 }
 
-// The length of the packet that is run next, none if the firmware has started, or no whole one is left.
+// The length of the packet that is run next: none if the firmware has started, or no whole one is left.
 fn packet_ahead(started: bool, rest: &[u8]) -> Option<usize>
-    ensures { result ≡ ahead_of started rest.now }
+    ensures { result ≡ cond started None (front_of rest.now) }
 {
-    let length = script::front(rest);
-    if started || length == 0 {
-        return None;
-    }
-    Some(length)
+    if started { None } else { script::front(rest) }
 }
 
 // What is said at a place where no packet is run any more.
@@ -164,7 +160,7 @@ fn run(
     let mut packets = 0;
     loop {
         let rest = &script[at..];
-        let started = loader::in_application(state.mode);
+        let started = state.mode == Mode::Application;
         let Some(length) = packet_ahead(started, rest) else {
             return found(ended(started, rest, at), packets, known);
         };
