@@ -90,18 +90,14 @@ pub extern "C" fn zlatopysk_check(
 fn card_of(mode: u8, expected: u16, version: &[u8; 3], record: &[u8; 87]) -> Card
     ensures { result ≡ card_of mode expected version.now «record».now }
 {
-    let mode = numbers::mode_of(mode);
-    let loader = Loader { mode, expected };
-    let version = Version {
-        xx: version[0],
-        yy: version[1],
-        zz: version[2],
-    };
-    let record = record_layout::values(record);
+    let [xx, yy, zz] = *version;
     Card {
-        loader,
-        version,
-        record,
+        loader: Loader {
+            mode: numbers::mode_of(mode),
+            expected,
+        },
+        version: Version { xx, yy, zz },
+        record: record_layout::values(record),
     }
 }
 
@@ -125,9 +121,7 @@ pub extern "C" fn zlatopysk_call(
 {
     let card = card_of(mode, expected, version, record);
     let after = card::call(card, size, region, password, message, reply);
-    let answer = after.answer;
-    let state = after.card;
-    *called = numbers::of_call(answer, state);
+    *called = numbers::of_call(after);
 }
 
 // A message to a card that loses its mains at a place of the message's work.
@@ -170,9 +164,7 @@ pub extern "C" fn zlatopysk_restart(
 {
     let card = card_of(mode, expected, version, record);
     let after = card::restart(card, size, region);
-    let answer = after.answer;
-    let state = after.card;
-    *restarted = numbers::of_restart(answer, state);
+    *restarted = numbers::of_restart(after);
 }
 
 // The values of a card's sensor record in 64 bytes.
