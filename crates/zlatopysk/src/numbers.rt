@@ -47,13 +47,9 @@ pub fn of_check(checked: Checked) -> [u64; 4]
 {
     let packets = checked.packets as u64;
     let unknown = checked.unknown as u64;
-    let answer = checked.answer;
-    match answer {
-        checker::Answer::Passed => [0, 0, packets, unknown],
-        checker::Answer::Refused { refusal, place } => {
-            let number = refusal::number(refusal);
-            [number as u64, place as u64, packets, unknown]
-        }
+    match checked.answer {
+        Ok(()) => [0, 0, packets, unknown],
+        Err(why) => [u64::from(u8::from(why.refusal)), why.place as u64, packets, unknown],
     }
 }
 
