@@ -8,7 +8,8 @@ use mathlib.Core.Logic.{⊎_elim}
 use native.Mathlib.Nat.{zero-add, min-le_right, le_of_suc-le-suc, eq-or-lt_of_le}
 use native.Mathlib.Numerals.{add-one}
 use native.Mathlib.Omega.{arith}
-use borrow.Author.Tests.{eqb-true, eq-eqb, ne_eqb, ltb-false}
+use borrow.Author.Tests.{eqb-true, ltb-false}
+use Rattle.std.specs.Prelude.{None}
 use lib.Dec.{eqb, ltb}
 use lib.ListN.{length, take, drop, replicate, length-take, length-drop, length-append, length-replicate, drop_of_length-le}
 use lib.Seq.{take_all, drop-drop, length-take-le}
@@ -65,17 +66,6 @@ neither : (a b : Bool) → a || b ≡ false → a ≡ false
 neither true b e = e
 neither false b e = refl
 
--- the walk goes on: the firmware has not started, and something is left
-pub goes_on : (mode : Mode) (at : ℕ) (script : List ℕ) → is_application mode ≡ false → at < length script → over mode (drop at script) ≡ false
-goes_on mode at script e inside =
-    let some : eqb (length (drop at script)) 0 ≡ false = ne_eqb (length (drop at script)) 0 (λ z. omega (arith, z, inside, length-drop at script)) in
-    rw (e, some) refl
-
-pub is-over : (mode : Mode) (at : ℕ) (script : List ℕ) → (is_application mode ≡ false → length script ≤ at) → over mode (drop at script) ≡ true
-is-over Application at script e = refl
-is-over Locked at script e = eq-eqb (length (drop at script)) 0 (omega (arith, length-drop at script, e refl))
-is-over Unlocked at script e = eq-eqb (length (drop at script)) 0 (omega (arith, length-drop at script, e refl))
-
 -- the lines of a loader that started the firmware
 started : (kind : Kind) (password : List ℕ) (loader : Loader) (region : List ℕ) (at : ℕ) (rest : List ℕ) (packets : List (List ℕ)) → is_application loader.mode ≡ true
     → lines_from kind password loader region at rest packets ≡ end_line at (InMode loader.mode)
@@ -102,7 +92,7 @@ module _ (kind : Kind) (password : List ℕ) (loader : Loader) (region : List �
             ap (λ (l : List ℕ). lines_at kind password loader region at (frames_of l)) none ∙ unpacked kind password loader region at [] (omega arith)
 
     -- the trace ends inside a packet
-    pub lines_cut : over loader.mode bytes ≡ false → front_of bytes ≡ 0 → lines_at kind password loader region at (frames_of bytes) ≡ end_line at Cut
+    pub lines_cut : over loader.mode bytes ≡ false → front_of bytes ≡ None → lines_at kind password loader region at (frames_of bytes) ≡ end_line at Cut
     lines_cut e none = unpacked kind password loader region at bytes (front_cut bytes none) ∙ ap (end_line at) (cut-ending loader.mode bytes e)
 
     -- a packet is run

@@ -1,5 +1,6 @@
 // The walk over a script's packets.
-ghost use Rattle.std.specs.Prelude.{◌≡◌, ◌≤◌, length, drop};
+ghost use Rattle.std.specs.Prelude.{◌≡◌, ◌||◌, ◌≤◌, eqb, length, drop};
+ghost use Rattle.loader.specs.Loader.{is_application};
 ghost use Rattle.little_endian.specs.Bytes.{PutBehind};
 ghost use Rattle.script.specs.Script.{frames_of};
 ghost use Rattle.trace_text.specs.Trace.{lines_at};
@@ -8,6 +9,13 @@ use crate::card::Card;
 use crate::shown::{Shown, append_end};
 use loader::Mode;
 use trace_lines::Ending;
+
+// Whether the walk ends before the next packet: the firmware started, or nothing is left.
+fn is_over(mode: Mode, rest: &[u8]) -> bool
+    ensures { result ≡ (is_application mode || eqb (length rest.now) 0) }
+{
+    mode == Mode::Application || rest.is_empty()
+}
 
 // The lines of the packets behind the head, run on a card, over the front of a buffer; the answer is
 // their length.
@@ -20,11 +28,10 @@ pub fn append_packets<S: Shown>(script: &[u8], card: Card, out: &mut [u8]) -> us
     let mut card = card;
     let mut at = 5;
     let mut held = 0;
-    while !loader::in_application(card.loader.mode) && at < script.len() {
-        let length = script::front(&script[at..]);
-        if length == 0 {
+    while !is_over(card.loader.mode, &script[at..]) {
+        let Some(length) = script::front(&script[at..]) else {
             return held + append_end(at as u16, Ending::Cut, &mut out[held..]);
-        }
+        };
         let end = at + length;
         held += S::run(at as u16, &mut card, &script[at..end], &mut out[held..]);
         at = end;
