@@ -1,5 +1,6 @@
 // Answers printed to standard output. The error of a write that fails is handed on.
 use refusal::Refused;
+use std::fmt::Display;
 use std::io;
 
 pub fn text(rt: &impl Print, words: &[u8]) -> io::Result<()> {
@@ -19,7 +20,7 @@ pub fn bytes(rt: &impl Print, list: &[u8]) -> io::Result<()> {
 }
 
 // Numbers, each behind a space.
-pub fn numbers(rt: &impl Print, list: &[u64]) -> io::Result<()> {
+pub fn numbers<N: Display>(rt: &impl Print, list: &[N]) -> io::Result<()> {
     for n in list {
         print!(rt; " {n}")?;
     }
@@ -49,7 +50,7 @@ pub fn kept(rt: &impl Print, same: bool) -> io::Result<()> {
 
 // Whether every byte of lent memory is still the value that it was lent with.
 pub fn kept_as(rt: &impl Print, lent: &[u8], before: u8) -> io::Result<()> {
-    kept(rt, lent.iter().all(|&b| b == before))
+    kept(rt, byte_parts::every(lent, before))
 }
 
 // A refusal, and whether every byte of lent memory is still the value that it was lent with.
