@@ -8,7 +8,7 @@ pub mod room;
 pub mod show;
 pub mod words;
 
-ghost use Rattle.std.specs.Prelude.{◌-◌, ◌<◌, ◌≤◌, length, IfSome};
+ghost use Rattle.std.specs.Prelude.{◌-◌, ◌^◌, ◌<◌, ◌≤◌, length, IfSome};
 
 use byte_parts::behind;
 use std::alloc::{AllocError, Global};
@@ -117,7 +117,9 @@ fn number_in(base: u32, limit: u32, words: &[u8]) -> (u32, &[u8])
 
 // The decimal number that words begin with, and what stands behind its at most nine digits. Words that begin
 // with none begin with the number 0, which is what every line without the number means.
-pub fn number_of(words: &[u8]) -> (usize, &[u8]) {
+pub fn number_of(words: &[u8]) -> (usize, &[u8])
+    ensures { result.0 < 2 ^ 32 }
+{
     let (value, rest) = number_in(10, 100_000_000, words);
     (value as usize, rest)
 }

@@ -1,4 +1,5 @@
 // Answers printed to standard output. The error of a write that fails is handed on.
+use loader::Mode;
 use refusal::Refused;
 use std::fmt::Display;
 use std::io;
@@ -63,4 +64,13 @@ pub fn refused_and_kept(
     refused(rt, refusal)?;
     print!(rt; ",")?;
     kept_as(rt, lent, before)
+}
+
+// The name of a mode.
+pub fn mode(rt: &impl Print, mode: Mode) -> io::Result<()> {
+    match mode {
+        Mode::Application => print!(rt; " application"),
+        Mode::Locked => print!(rt; " locked"),
+        Mode::Unlocked => print!(rt; " unlocked"),
+    }
 }
