@@ -47,9 +47,7 @@ fn put_plain(words: &[u8], out: &mut Room) -> Result<(), AllocError> {
     for word in words.split(|&b| b == b' ') {
         match word {
             [] => {}
-            [b'@', address @ ..] => {
-                out.put_whole(&hex_of(address).to_le_bytes())?;
-            }
+            [b'@', address @ ..] => out.put_whole(&hex_of(address).to_le_bytes())?,
             _ => put_bytes(word, out)?,
         }
     }

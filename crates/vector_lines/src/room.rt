@@ -40,13 +40,12 @@ impl Room {
         self.bytes.extend_from_slice(front(bytes, left))
     }
 
-    // Puts bytes behind the others if there is room for all of them, and answers whether there is.
-    pub fn put_whole(&mut self, bytes: &[u8]) -> Result<bool, AllocError> {
+    // Puts bytes behind the others if there is room for all of them.
+    pub fn put_whole(&mut self, bytes: &[u8]) -> Result<(), AllocError> {
         if self.left() < bytes.len() {
-            return Ok(false);
+            return Ok(());
         }
-        self.put(bytes)?;
-        Ok(true)
+        self.put(bytes)
     }
 
     // Puts the first of the bytes that a unit is when it is repeated without end, so many of them.
@@ -67,6 +66,12 @@ impl Room {
     // Keeps the first bytes, so many.
     pub fn truncate(&mut self, count: usize) {
         self.bytes.truncate(count);
+    }
+
+    // Leaves out the last bytes, so many.
+    pub fn shorten(&mut self, count: usize) {
+        let kept = self.bytes.len().saturating_sub(count);
+        self.bytes.truncate(kept);
     }
 
     // Puts a byte over the one at a place, if there is one.
