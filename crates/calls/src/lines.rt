@@ -1,111 +1,33 @@
 // The lines: each one's settings read, its order carried out and answered.
-use crate::settings::{Order, Setup};
-use crate::{answers, settings};
+use crate::bench::Bench;
 use byte_parts::behind;
-use card::Card;
 use std::io;
-use vector_lines::{packets, show};
+use vector_lines::room::Room;
+use vector_lines::{cut, packets, read_settings};
 
-// The password in the front of its room, and its length in the setup.
-fn key(rt: &impl Print, bytes: &[u8], setup: Setup, password: &mut [u8]) -> io::Result<Setup> {
-    little_endian::store(bytes, 0, password);
-    answers::key(rt, bytes.len())?;
-    let mut changed = setup;
-    changed.password = bytes.len();
-    Ok(changed)
-}
+// How many bytes the words of an order stand for at most.
+const ROOM: usize = 16400;
 
-// The card with the record of 64 bytes.
-fn record(rt: &impl Print, bytes: &[u8], setup: Setup) -> io::Result<Setup> {
-    let card = setup.card;
-    let loader = card.loader;
-    let version = card.version;
-    let changed = Card {
-        loader,
-        version,
-        record: sensor_reader::values(bytes),
-    };
-    answers::record(rt, changed)?;
-    Ok(settings::with_card(setup, changed))
-}
-
-// An order carried out: `asked` is the setup with this line's settings, `before` that without them.
-fn carry_out(
-    rt: &impl Print,
-    order: Order,
-    bytes: &[u8],
-    asked: Setup,
-    before: Setup,
-    password: &mut [u8],
-    region: &mut [u8],
-) -> io::Result<Setup> {
+// What stands behind a label carried out on the bench. Before a call the lengths that are lent hold for that call only.
+fn answer(rt: &(impl Print + AllocGlobal), bench: &mut Bench, words: &[u8]) -> io::Result<()> {
+    let before = bench.lent;
+    let rest = read_settings(words, bench);
+    let (order, _) = cut(rest, b' ');
+    let mut bytes = Room::new(rt.alloc(), ROOM);
+    packets::put(rt, behind(rest, order.len()), &mut bytes)?;
     match order {
-        Order::Call => {
-            let card = answers::call(rt, asked, bytes, password, region)?;
-            Ok(settings::with_card(before, card))
+        b"call" => {
+            bench.call(rt, bytes.bytes())?;
+            bench.lent = before;
+            Ok(())
         }
-        Order::Key => key(rt, bytes, asked, password),
-        Order::Record => record(rt, bytes, asked),
-        Order::Setting => {
-            answers::state(rt, asked, region)?;
-            Ok(asked)
-        }
+        b"key" => bench.key(rt, bytes.bytes()),
+        b"record" => bench.record(rt, bytes.bytes()),
+        _ => bench.state(rt),
     }
 }
 
-// The order that words begin with, carried out.
-fn order(
-    rt: &impl Print,
-    words: &[u8],
-    asked: Setup,
-    before: Setup,
-    bytes: &mut [u8],
-    password: &mut [u8],
-    region: &mut [u8],
-) -> io::Result<Setup> {
-    let name = packets::word_at(words, 0);
-    let n = packets::append(rt, behind(words, name.len()), 0, bytes)?;
-    carry_out(
-        rt,
-        settings::order_of(name),
-        &bytes[..n],
-        asked,
-        before,
-        password,
-        region,
-    )
-}
-
-// A label, and the answer to what stands behind it, if anything does.
-fn line(
-    rt: &impl Print,
-    words: &[u8],
-    before: Setup,
-    bytes: &mut [u8],
-    password: &mut [u8],
-    region: &mut [u8],
-) -> io::Result<Setup> {
-    let case = vector_lines::label(rt, words)?;
-    if case.len() == 0 {
-        return Ok(before);
-    }
-    let read = settings::read(case, before, region);
-    let asked = read.setup;
-    let rest = behind(case, read.past);
-    order(rt, rest, asked, before, bytes, password, region)
-}
-
-pub fn run(rt: &impl Print, input: &[u8]) -> io::Result<()> {
-    let mut region = [0u8; input_rooms::REGION];
-    let mut password = [0xFFu8; 300];
-    let mut bytes = [0u8; 16400];
-    let mut setup = settings::start();
-    let mut at = 0;
-    while at < input.len() {
-        let next = byte_parts::line_at(input, at);
-        at = at + next.len() + 1;
-        setup = line(rt, next, setup, &mut bytes, &mut password, &mut region)?;
-        show::line_end(rt)?;
-    }
-    Ok(())
+pub fn run(rt: &(impl Print + AllocGlobal), input: &[u8]) -> io::Result<()> {
+    let mut bench = Bench::new(rt.alloc())?;
+    vector_lines::answer_lines(rt, input, |words| answer(rt, &mut bench, words))
 }

@@ -18,8 +18,8 @@
 #![tactic(auto)]
 
 mod answers;
+mod bench;
 mod lines;
-mod settings;
 
 use std::io;
 

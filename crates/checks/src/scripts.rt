@@ -1,185 +1,70 @@
-// The script of a line, made step by step over the front of a buffer. Each step says how many bytes
-// there are then; what the buffer has no room for is left out.
-ghost use Rattle.std.specs.Prelude.{◌≤◌, length, IfOk};
-
-use byte_parts::{behind, part_at};
+// The script of a line, made step by step; what its room does not hold is left out.
+use byte_parts::{behind, front};
 use planner::Planned;
-use region::same;
 use std::io;
-use vector_lines::{number_of, packets, show};
+use vector_lines::room::Room;
+use vector_lines::{cut, hex_of, number_of, packets, secret};
 
+// The text that a script is planned of, and its size.
 #[derive(Clone, Copy)]
-enum Step {
-    Head,
-    Plan,
-    Cut,
-    Less,
-    At,
-    Again,
-    // None of these words: the step is bytes.
-    Bytes,
+pub struct Planning<'a> {
+    pub text: &'a [u8],
+    pub size: usize,
 }
 
-fn step_of(word: &[u8]) -> Step {
-    if same(word, b"head") {
-        return Step::Head;
-    }
-    if same(word, b"plan") {
-        return Step::Plan;
-    }
-    if same(word, b"cut") {
-        return Step::Cut;
-    }
-    if same(word, b"less") {
-        return Step::Less;
-    }
-    if same(word, b"at") {
-        return Step::At;
-    }
-    if same(word, b"again") {
-        return Step::Again;
-    }
-    Step::Bytes
-}
-
-// A script's head behind what there is.
-fn put_head(held: usize, out: &mut [u8]) -> usize
-    requires { held ≤ length out.old }
-    ensures { result ≤ length out.new }
-{
-    if out.len() - held < 5 {
-        return held;
-    }
-    little_endian::store(&script::head(), held, out);
-    held + 5
-}
-
-// The planner's script of a text behind what there is, with the whole password.
-fn put_plan(
-    rt: &impl Print,
-    entry: u32,
-    size: usize,
-    text: &[u8],
-    held: usize,
-    out: &mut [u8],
-) -> io::Result<usize>
-    requires { held ≤ length out.old }
-    ensures { IfOk result (λ n. n ≤ length out.new) }
-{
-    let secret = vector_lines::secret();
-    let room = out.len() - held;
-    match planner::plan(text, &secret[..256], entry, size, &mut out[held..]) {
-        Planned::Refused {
-            refusal: _,
-            place: _,
-        } => {
-            show::text(rt, b" no plan")?;
-            Ok(held)
-        }
-        Planned::Written(n) => {
-            if room < n {
-                return Ok(held);
+impl Planning<'_> {
+    // Puts the planner's script of the text, with the whole password.
+    fn put(
+        &self,
+        rt: &(impl Print + AllocGlobal),
+        entry: u32,
+        script: &mut Room,
+    ) -> io::Result<()> {
+        let secret = secret();
+        let mut out = vec![in rt.alloc(); 0; script.left()]?;
+        match planner::plan(self.text, front(&secret, 256), entry, self.size, &mut out) {
+            Planned::Refused {
+                refusal: _,
+                place: _,
+            } => print!(rt; " no plan"),
+            Planned::Written(n) => {
+                script.put(front(&out, n))?;
+                Ok(())
             }
-            Ok(held + n)
         }
     }
-}
 
-// The lesser of two numbers.
-fn lesser(a: usize, b: usize) -> usize
-    ensures { result ≤ b }
-{
-    if a < b {
-        return a;
-    }
-    b
-}
-
-// What is left without the last n.
-fn without(n: usize, held: usize) -> usize
-    ensures { result ≤ held }
-{
-    if held < n {
-        return 0;
-    }
-    held - n
-}
-
-// A byte over the one at an offset.
-fn put_over(words: &[u8], held: usize, out: &mut [u8]) -> usize
-    requires { held ≤ length out.old }
-    ensures { result ≤ length out.new }
-{
-    let offset = number_of(words);
-    let byte = packets::byte_of(behind(words, offset.past + 1));
-    little_endian::store(&[byte], offset.value, out);
-    held
-}
-
-// The last bytes, as many as `back`, over and over for `count` bytes more.
-fn repeat(back: usize, count: usize, held: usize, out: &mut [u8]) -> usize
-    requires { held ≤ length out.old }
-    ensures { result ≤ length out.new }
-{
-    if held < back {
-        return held;
-    }
-    let mut n = held;
-    let mut left = count;
-    while 0 < left {
-        if out.len() <= n {
-            return n;
+    // Carries out a step.
+    fn carry_out(
+        &self,
+        rt: &(impl Print + AllocGlobal),
+        step: &[u8],
+        script: &mut Room,
+    ) -> io::Result<()> {
+        let (name, rest) = cut(step, b' ');
+        let (number, others) = number_of(rest);
+        let more = behind(others, 1);
+        match name {
+            b"head" => script.put_whole(&script::head())?,
+            b"plan" => self.put(rt, hex_of(rest), script)?,
+            b"cut" => script.truncate(number),
+            b"less" => script.shorten(number),
+            b"at" => script.put_over(number, packets::byte_of(more)),
+            b"again" => script.go_on(number, number_of(more).0)?,
+            _ => packets::put(rt, step, script)?,
         }
-        out[n] = out[n - back];
-        n += 1;
-        left -= 1;
+        Ok(())
     }
-    n
-}
 
-// A step carried out.
-fn carry_out(
-    rt: &impl Print,
-    words: &[u8],
-    size: usize,
-    text: &[u8],
-    held: usize,
-    out: &mut [u8],
-) -> io::Result<usize>
-    requires { held ≤ length out.old }
-    ensures { IfOk result (λ n. n ≤ length out.new) }
-{
-    let name = packets::word_at(words, 0);
-    let rest = behind(words, name.len() + 1);
-    let number = number_of(rest);
-    let more = number_of(behind(rest, number.past + 1));
-    match step_of(name) {
-        Step::Head => Ok(put_head(held, out)),
-        Step::Plan => put_plan(rt, packets::hex_of(rest), size, text, held, out),
-        Step::Cut => Ok(lesser(number.value, held)),
-        Step::Less => Ok(without(number.value, held)),
-        Step::At => Ok(put_over(rest, held, out)),
-        Step::Again => Ok(repeat(number.value, more.value, held, out)),
-        Step::Bytes => packets::append(rt, words, held, out),
+    // The script that steps make, with a comma and a space between them.
+    pub fn script_of(&self, rt: &(impl Print + AllocGlobal), steps: &[u8]) -> io::Result<Room> {
+        let mut script = Room::new(rt.alloc(), input_rooms::SCRIPT);
+        let mut rest = steps;
+        while !rest.is_empty() {
+            let (step, others) = cut(rest, b',');
+            self.carry_out(rt, step, &mut script)?;
+            rest = behind(others, 1);
+        }
+        Ok(script)
     }
-}
-
-// The script that steps make of a text for a size. The answer is its length.
-pub fn script_of(
-    rt: &impl Print,
-    steps: &[u8],
-    size: usize,
-    text: &[u8],
-    out: &mut [u8],
-) -> io::Result<usize>
-    ensures { IfOk result (λ n. n ≤ length out.new) }
-{
-    let mut held = 0;
-    let mut at = 0;
-    while at < steps.len() {
-        let step = part_at(steps, at, b',');
-        held = carry_out(rt, step, size, text, held, out)?;
-        at = at + step.len() + 2;
-    }
-    Ok(held)
 }

@@ -1,151 +1,78 @@
 // Plans, answered.
 use crate::packets;
-use crate::packets::Framed;
-use loader::Mode;
+use crate::packets::Packet;
 use planner::Planned;
-use refusal::Refusal;
+use refusal::Refused;
 use std::io;
 use vector_lines::show;
 
 // What every byte of the output is before a text is planned.
-const BEFORE: u8 = 0xA5;
+pub const BEFORE: u8 = 0xA5;
 
 // What every byte of the region is before the packets are sent.
 const OLD: u8 = 0x5A;
 
 // What a line asks for.
 #[derive(Clone, Copy)]
-pub struct Asked {
+pub struct Plan<'a> {
     // whether the packets are listed
     pub listed: bool,
-    pub size: u32,
+    pub size: usize,
     pub entry: u32,
-    // the lengths that are lent
-    pub password: u32,
-    pub room: u32,
+    pub password: &'a [u8],
+    pub text: &'a [u8],
 }
 
-fn mode_name(rt: &impl Print, mode: Mode) -> io::Result<()> {
-    match mode {
-        Mode::Application => show::text(rt, b" application,"),
-        Mode::Locked => show::text(rt, b" locked,"),
-        Mode::Unlocked => show::text(rt, b" unlocked,"),
-    }
-}
-
-// A refusal, and whether the output is as it was.
-fn refused(rt: &impl Print, why: Refusal, place: usize, out: &[u8]) -> io::Result<()> {
-    show::text(rt, b" ")?;
-    show::refused(rt, refusal::number(why), place)?;
-    show::text(rt, b",")?;
-    show::kept(rt, byte_parts::every(out, BEFORE))
-}
-
-// Sends the packets over a region to a loader that expects the checksum of the picture, which the reader
-// puts into another region.
-fn send(
-    rt: &impl Print,
-    script: &[u8],
-    count: usize,
-    password: &[u8],
-    text: &[u8],
-    picture: &mut [u8],
-    region: &mut [u8],
-) -> io::Result<()> {
-    region::fill(region, OLD);
-    ti_txt::read(text, picture.len(), picture);
-    let sent = packets::send(
-        script,
-        count,
-        crc::checksum(crc::START, picture),
-        password,
-        region,
-    );
-    let mode = sent.mode;
-    show::text(rt, b"; sent:")?;
-    show::decimal(rt, sent.succeeded)?;
-    show::text(rt, b" succeeded,")?;
-    mode_name(rt, mode)?;
-    if region::same(region, picture) {
-        return show::text(rt, b" the picture");
-    }
-    show::text(rt, b" another region")
-}
-
-// Sends the packets over a region of the size.
-fn send_over(
-    rt: &impl Print,
-    script: &[u8],
-    count: usize,
-    password: &[u8],
-    text: &[u8],
-    size: usize,
-) -> io::Result<()> {
-    let mut picture = [0u8; input_rooms::REGION];
-    let mut region = [0u8; input_rooms::REGION];
-    if region.len() < size {
-        return show::text(rt, b" no region of that length");
-    }
-    send(
-        rt,
-        script,
-        count,
-        password,
-        text,
-        &mut picture[..size],
-        &mut region[..size],
-    )
-}
-
-// A script's packets and checksum, and whether the output behind it is as it was.
-fn described(rt: &impl Print, script: &[u8], count: usize, behind: &[u8]) -> io::Result<()> {
-    show::decimal(rt, count)?;
-    show::text(rt, b" packets, checksum")?;
-    show::hex(rt, crc::checksum(crc::START, script) as usize, 4)?;
-    show::text(rt, b", rest")?;
-    show::kept(rt, byte_parts::every(behind, BEFORE))
-}
-
-// What was planned over the front of the output.
-fn planned(
-    rt: &impl Print,
-    n: usize,
-    asked: Asked,
-    text: &[u8],
-    password: &[u8],
-    out: &[u8],
-) -> io::Result<()> {
-    show::text(rt, b" planned")?;
-    show::decimal(rt, n)?;
-    show::text(rt, b" bytes,")?;
-    if out.len() < n {
-        return show::text(rt, b" above the output's length");
-    }
-    let script = &out[..n];
-    match packets::framing(script) {
-        Framed::Broken => show::text(rt, b" no script"),
-        Framed::Packets(count) => {
-            described(rt, script, count, &out[n..])?;
-            send_over(rt, script, count, password, text, asked.size as usize)?;
-            if asked.listed {
-                packets::list(rt, script, count)?;
+impl Plan<'_> {
+    // The text planned over an output that every byte of is BEFORE.
+    pub fn answer(&self, rt: &(impl Print + AllocGlobal), out: &mut [u8]) -> io::Result<()> {
+        match planner::plan(self.text, self.password, self.entry, self.size, out) {
+            Planned::Refused { refusal, place } => {
+                show::refused_and_kept(rt, Refused { refusal, place }, out, BEFORE)
             }
-            Ok(())
+            Planned::Written(n) => self.written(rt, n, out),
         }
     }
-}
 
-// A text planned with just what is lent.
-pub fn answer(
-    rt: &impl Print,
-    asked: Asked,
-    text: &[u8],
-    password: &[u8],
-    out: &mut [u8],
-) -> io::Result<()> {
-    region::fill(out, BEFORE);
-    match planner::plan(text, password, asked.entry, asked.size as usize, out) {
-        Planned::Refused { refusal, place } => refused(rt, refusal, place, out),
-        Planned::Written(n) => planned(rt, n, asked, text, password, out),
+    // What was planned over the front of the output: its packets and its checksum, whether the rest of the output is
+    // as it was, and what became of the packets.
+    fn written(&self, rt: &(impl Print + AllocGlobal), n: usize, out: &[u8]) -> io::Result<()> {
+        print!(rt; " planned {n} bytes,")?;
+        let Some((script, rest)) = out.split_at_checked(n) else {
+            return print!(rt; " above the output's length");
+        };
+        let Some(packets) = packets::of(rt.alloc(), script)? else {
+            return print!(rt; " no script");
+        };
+        let count = packets.len();
+        print!(rt; " {count} packets, checksum")?;
+        show::checksum(rt, script)?;
+        print!(rt; ", rest")?;
+        show::kept_as(rt, rest, BEFORE)?;
+        self.send(rt, &packets)?;
+        if self.listed {
+            packets::list(rt, &packets)?;
+        }
+        Ok(())
+    }
+
+    // Sends the packets over a region of the size to a loader that expects the checksum of the picture, which the
+    // reader puts into another region.
+    fn send(&self, rt: &(impl Print + AllocGlobal), packets: &[Packet<'_>]) -> io::Result<()> {
+        if input_rooms::REGION < self.size {
+            return print!(rt; " no region of that length");
+        }
+        let mut picture = vec![in rt.alloc(); 0; self.size]?;
+        let mut region = vec![in rt.alloc(); OLD; self.size]?;
+        ti_txt::read(self.text, self.size, &mut picture);
+        let expected = crc::checksum(crc::START, &picture);
+        let sent = packets::send(packets, expected, self.password, &mut region);
+        let succeeded = sent.succeeded;
+        print!(rt; "; sent: {succeeded} succeeded,")?;
+        show::mode(rt, sent.mode)?;
+        if region.as_slice() == picture.as_slice() {
+            return print!(rt; ", the picture");
+        }
+        print!(rt; ", another region")
     }
 }

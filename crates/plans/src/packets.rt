@@ -1,21 +1,18 @@
-// The packets of a script: counted, listed, and sent to a loader.
-ghost use Rattle.std.specs.Prelude.{◌-◌, ◌≤◌, length};
-
+// The packets of a script: cut off one by one, listed, and sent to a loader.
 use byte_parts::behind;
 use loader::{Loader, Mode};
 use packet::Command;
+use std::alloc::{AllocError, Global};
 use std::io;
-use vector_lines::show;
 
 // The length of a script's head.
 const HEAD: usize = 5;
 
-// What the framing makes of bytes: so many packets behind a head, or no script.
+// A packet of a script, and its offset there.
 #[derive(Clone, Copy)]
-pub enum Framed {
-    Packets(usize),
-    // The head is not right, or the bytes end inside a packet.
-    Broken,
+pub struct Packet<'a> {
+    at: usize,
+    bytes: &'a [u8],
 }
 
 // What became of the packets that were sent.
@@ -25,101 +22,72 @@ pub struct Sent {
     pub mode: Mode,
 }
 
-// The packet at a place, nothing if the script ends inside it.
-fn packet_at(script: &[u8], at: usize) -> &[u8]
-    ensures { length result.now ≤ length script.now - at }
-{
-    let rest = behind(script, at);
-    let n = script::front(rest);
-    &rest[..n]
-}
-
-// How many packets a script has.
-pub fn framing(script: &[u8]) -> Framed {
+// The packets of a script, unless its head is not right or it ends inside a packet.
+pub fn of(alloc: Global, script: &[u8]) -> Result<Option<Vec<Packet<'_>>>, AllocError> {
     if !script::is_headed(script) {
-        return Framed::Broken;
+        return Ok(None);
     }
-    let mut count: usize = 0;
-    let mut at = HEAD;
-    while at < script.len() {
-        let n = packet_at(script, at).len();
+    let mut packets = Vec::new(alloc);
+    let mut rest = behind(script, HEAD);
+    while !rest.is_empty() {
+        let n = script::front(rest);
+        let Some((bytes, others)) = rest.split_at_checked(n) else {
+            return Ok(None);
+        };
         if n == 0 {
-            return Framed::Broken;
+            return Ok(None);
         }
-        count += 1;
-        at += n;
+        let at = script.len() - rest.len();
+        packets.push(Packet { at, bytes })?;
+        rest = others;
     }
-    Framed::Packets(count)
-}
-
-// Whether an address follows the code of a core.
-fn has_address(core: &[u8]) -> bool {
-    match packet::command_of(core) {
-        Command::Password => false,
-        Command::Erase => false,
-        Command::Write => true,
-        Command::RangeChecksum => true,
-        Command::Start => true,
-        Command::Unknown => false,
-    }
+    Ok(Some(packets))
 }
 
 // The address of a core, and how many bytes follow it.
 fn show_core(rt: &impl Print, core: &[u8]) -> io::Result<()> {
-    if has_address(core) {
-        show::hex(rt, packet::address(core), 4)?;
-        return show::decimal(rt, behind(core, 5).len());
+    match packet::command_of(core) {
+        Command::Write | Command::RangeChecksum | Command::Start => {
+            let address = packet::address(core);
+            let count = behind(core, 5).len();
+            print!(rt; " {address:04x} {count}")
+        }
+        Command::Password | Command::Erase | Command::Unknown => {
+            let count = behind(core, 1).len();
+            print!(rt; " - {count}")
+        }
     }
-    show::text(rt, b" -")?;
-    show::decimal(rt, behind(core, 1).len())
 }
 
-// The line of a packet.
-fn show_packet(rt: &impl Print, at: usize, packet: &[u8]) -> io::Result<()> {
-    let core = packet::core(packet);
-    show::text(rt, b"\n ")?;
-    show::decimal(rt, at)?;
-    show::byte(rt, little_endian::byte_at(core, 0))?;
-    show_core(rt, core)?;
-    show::byte(rt, packet::acknowledgement(packet))
-}
-
-// A line for each of the packets, as many as the framing has.
-pub fn list(rt: &impl Print, script: &[u8], count: usize) -> io::Result<()> {
-    let mut at = HEAD;
-    for _ in 0..count {
-        let packet = packet_at(script, at);
-        show_packet(rt, at, packet)?;
-        at += packet.len();
+// A line for each of the packets.
+pub fn list(rt: &impl Print, packets: &[Packet<'_>]) -> io::Result<()> {
+    for &Packet { at, bytes } in packets {
+        let core = packet::core(bytes);
+        let code = little_endian::byte_at(core, 0);
+        let acknowledgement = packet::acknowledgement(bytes);
+        print!(rt; "\n  {at} {code:02x}")?;
+        show_core(rt, core)?;
+        print!(rt; " {acknowledgement:02x}")?;
     }
     Ok(())
 }
 
-// Sends the packets, as many as the framing has, one by one to a locked loader.
-pub fn send(
-    script: &[u8],
-    count: usize,
-    expected: u16,
-    password: &[u8],
-    region: &mut [u8],
-) -> Sent {
-    let mut state = Loader {
+// Sends the packets one by one to a locked loader.
+pub fn send(packets: &[Packet<'_>], expected: u16, password: &[u8], region: &mut [u8]) -> Sent {
+    let mut loader = Loader {
         mode: Mode::Locked,
         expected,
     };
     let mut succeeded: usize = 0;
-    let mut at = HEAD;
-    for _ in 0..count {
-        let packet = packet_at(script, at);
-        let received = loader::receive(state, region, password, packet);
-        let reply = received.reply;
-        let next = received.loader;
-        state = next;
-        at += packet.len();
-        if loader::succeeded(reply) {
+    for packet in packets {
+        let received = loader::receive(loader, region, password, packet.bytes);
+        loader = received.loader;
+        if loader::succeeded(received.reply) {
             succeeded += 1;
         }
     }
-    let mode = state.mode;
-    Sent { succeeded, mode }
+    Sent {
+        succeeded,
+        mode: loader.mode,
+    }
 }

@@ -1,30 +1,22 @@
-// What the programs have in common: the input read, lines and their labels found, numbers and bytes read from
-// words, the text that words stand for (`words`), bytes and packets (`packets`), numbers asked for by
-// arguments, a password, and answers printed (`show`). None
-// of these functions asks anything of its input.
+// What the programs have in common: the lines of the input read and answered, numbers, bytes and settings read
+// from words, the text that words stand for (`words`), bytes and packets (`packets`), a room that is filled
+// (`room`), a password, and answers printed (`show`). None of these functions asks anything of its input.
 #![tactic(auto)]
 
 pub mod packets;
+pub mod room;
 pub mod show;
 pub mod words;
 
-ghost use Rattle.std.specs.Prelude.{◌≡◌, ◌<◌, ◌≤◌, length};
+ghost use Rattle.std.specs.Prelude.{◌-◌, ◌^◌, ◌<◌, ◌≤◌, length, IfSome};
 
-use byte_parts::{behind, find};
-use firmware_text::digit_of;
+use byte_parts::behind;
+use std::alloc::{AllocError, Global};
 use std::io;
 use std::io::Read;
-use std::rt::Env;
 
 // How many bytes of the input are read.
 const INPUT: u64 = 65536;
-
-// A decimal number, and the place behind its digits.
-#[derive(Clone, Copy)]
-pub struct Number {
-    pub value: usize,
-    pub past: usize,
-}
 
 // The bytes of the standard input, the first 65,536 if it has more.
 pub fn input(rt: &(impl Input + AllocGlobal)) -> io::Result<Vec<u8>> {
@@ -34,97 +26,120 @@ pub fn input(rt: &(impl Input + AllocGlobal)) -> io::Result<Vec<u8>> {
 }
 
 // The bytes 0, 1, 2 .. 255, 0, 1 .. of which a password is lent.
-pub fn secret() -> [u8; 300]
-    ensures { 300 ≡ length result }
+pub fn secret() -> [u8; 300] {
+    std::array::from_fn(|i| (i % 256) as u8)
+}
+
+// Prints the label of each line, and has what stands behind it answered if anything does.
+pub fn answer_lines<R: Print, F: FnMut(&[u8]) -> io::Result<()>>(
+    rt: &R,
+    input: &[u8],
+    mut answer: F,
+) -> io::Result<()>
+    requires { F.IsAlwaysCallable answer }
 {
-    let mut bytes = [0u8; 300];
-    for i in 0..300 {
-        bytes[i] = (i % 256) as u8;
+    for line in input.split_inclusive(|&b| b == b'\n') {
+        let words = label(rt, line.strip_suffix(b"\n").unwrap_or(line))?;
+        if !words.is_empty() {
+            answer(words)?;
+        }
+        show::line_end(rt)?;
     }
-    bytes
+    Ok(())
 }
 
 // Prints the label of a line, and hands back what stands behind its colon and a space. A line
 // without these is a heading, and nothing stands behind it.
 pub fn label<'a>(rt: &impl Print, line: &'a [u8]) -> io::Result<&'a [u8]> {
-    let colon = find(line, b':');
-    show::text(rt, &line[..colon])?;
-    let rest = behind(line, colon);
-    let words = behind(rest, 2);
-    if 0 < words.len() {
+    let (label, rest) = cut(line, b':');
+    let words = behind(rest, 1);
+    show::text(rt, label)?;
+    if !words.is_empty() {
         show::text(rt, b":")?;
     }
     Ok(words)
 }
 
-// The decimal number that words begin with, 0 if none. It ends before its value would need more
-// than nine digits.
-pub fn number_of(words: &[u8]) -> Number
-    ensures { (result.past ≤ length words.now) × (result.value < 1000000000) }
+// What stands before the first such byte, and what behind it: nothing if there is none.
+pub fn cut(words: &[u8], end: u8) -> (&[u8], &[u8])
+    ensures { length result.1.now ≤ length words.now - 1 }
 {
-    let mut value: usize = 0;
-    let mut past = 0;
-    while past < words.len() {
-        let next = digit_of(words[past]);
-        if 9 < next {
-            return Number { value, past };
+    match words.iter().position(|&b| b == end) {
+        Some(at) => (&words[..at], &words[at + 1..]),
+        None => (words, &[]),
+    }
+}
+
+// What the settings of a line are read into.
+pub trait Settings {
+    // Takes the value of a name; the answer is whether the name is a setting's.
+    fn set(&mut self, name: &[u8], value: &[u8]) -> bool;
+}
+
+// Takes the settings that words begin with, each a name and a value with a space behind both, and hands back
+// what stands behind them.
+pub fn read_settings<'a, S: Settings>(words: &'a [u8], into: &mut S) -> &'a [u8] {
+    let mut rest = words;
+    while !rest.is_empty() {
+        let (name, values) = cut(rest, b' ');
+        let (value, others) = cut(values, b' ');
+        if !into.set(name, value) {
+            return rest;
         }
-        if 99999999 < value {
-            return Number { value, past };
-        }
-        value = value * 10 + next as usize;
-        past += 1;
+        rest = others;
     }
-    Number { value, past }
+    rest
 }
 
-// The decimal number that an argument of the program is, or another where it is none.
-pub fn asked(rt: &impl Env, argument: usize, otherwise: usize) -> usize {
-    let mut words = [0u8; 20];
-    let n = rt.arg(argument, &mut words).unwrap_or(0);
-    let number = number_of(&words[..n]);
-    if n == 0 {
-        return otherwise;
-    }
-    if number.past != n {
-        return otherwise;
-    }
-    number.value
-}
-
-// The byte of a space and two digits, 256 for any other three.
-fn pair(space: u8, first: u8, second: u8) -> u16 {
-    let high = digit_of(first);
-    let low = digit_of(second);
-    if space != b' ' {
-        return 256;
-    }
-    if 15 < high {
-        return 256;
-    }
-    if 15 < low {
-        return 256;
-    }
-    (high * 16 + low) as u16
-}
-
-// The bytes of a list of two digits each, a space before each. The answer is how many were read up
-// to the list's end, the first that is none, or the end of the room.
-pub fn bytes_of(words: &[u8], out: &mut [u8]) -> usize
-    ensures { result ≤ length out.new }
+fn digit_of(letter: u8, base: u32) -> Option<u32>
+    requires { (2 ≤ base) × (base ≤ 16) }
+    ensures { IfSome result (λ digit. digit < base) }
 {
-    let n = words.len() / 3;
-    let mut i = 0;
-    while i < n {
-        let value = pair(words[3 * i], words[3 * i + 1], words[3 * i + 2]);
-        if 255 < value {
-            return i;
+    char::from(letter).to_digit(base)
+}
+
+// The number of the digits that words begin with, and what stands behind them. It ends before a digit that
+// would make it `limit` times the base or more.
+fn number_in(base: u32, limit: u32, words: &[u8]) -> (u32, &[u8])
+    requires { (2 ≤ base) × (base ≤ 16) }
+{
+    let mut value = 0u32;
+    for (at, &letter) in words.iter().enumerate() {
+        match digit_of(letter, base) {
+            Some(digit) if value < limit => {
+                value = value.saturating_mul(base).saturating_add(digit);
+            }
+            _ => return (value, behind(words, at)),
         }
-        if out.len() <= i {
-            return i;
-        }
-        out[i] = value as u8;
-        i += 1;
     }
-    i
+    (value, &[])
+}
+
+// The decimal number that words begin with, and what stands behind its at most nine digits. Words that begin
+// with none begin with the number 0, which is what every line without the number means.
+pub fn number_of(words: &[u8]) -> (usize, &[u8])
+    ensures { result.0 < 2 ^ 32 }
+{
+    let (value, rest) = number_in(10, 100_000_000, words);
+    (value as usize, rest)
+}
+
+// The number of the hexadecimal digits that a word begins with, at most eight.
+pub fn hex_of(word: &[u8]) -> u32 {
+    number_in(16, 0x1000_0000, word).0
+}
+
+// The bytes of a list of two digits each, a space before each, if it is one.
+pub fn bytes_of(alloc: Global, words: &[u8]) -> Result<Option<Vec<u8>>, AllocError> {
+    let mut bytes = Vec::new(alloc);
+    for word in words.chunks(3) {
+        let [b' ', high, low] = word else {
+            return Ok(None);
+        };
+        let (Some(high), Some(low)) = (digit_of(*high, 16), digit_of(*low, 16)) else {
+            return Ok(None);
+        };
+        bytes.push((16 * high + low) as u8)?;
+    }
+    Ok(Some(bytes))
 }

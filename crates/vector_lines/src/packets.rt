@@ -1,189 +1,87 @@
 // The bytes that the words of a line stand for: two hexadecimal digits are a byte, `256*ff` is a byte so
 // many times, `00..ff` the bytes from one to another, `@1f780` the four bytes of an address, low byte
 // first; words in brackets are a core, which stands for the packet around it.
-ghost use Rattle.std.specs.Prelude.{◌-◌, ◌≤◌, length, IfOk};
-
-use crate::{number_of, show};
-use byte_parts::{behind, find, part_at};
-use firmware_text::digit_of;
+use crate::room::Room;
+use crate::{cut, hex_of, number_of};
+use byte_parts::behind;
+use std::alloc::AllocError;
 use std::io;
 
-// Bytes behind each other: the first, by how much each next one is greater, and how many there are.
-#[derive(Clone, Copy)]
-struct Run {
-    first: u8,
-    step: u8,
-    count: usize,
-}
-
-// The word from a place on, without the space behind it.
-pub fn word_at(words: &[u8], at: usize) -> &[u8]
-    ensures { length result.now ≤ length words.now - at }
-{
-    part_at(words, at, b' ')
-}
-
-// The number of the hexadecimal digits that a word begins with, at most eight.
-pub fn hex_of(word: &[u8]) -> u32 {
-    let mut value: u32 = 0;
-    let mut i = 0;
-    while i < word.len() {
-        let digit = digit_of(word[i]);
-        if 15 < digit {
-            return value;
-        }
-        if 268435455 < value {
-            return value;
-        }
-        value = value * 16 + digit as u32;
-        i += 1;
-    }
-    value
-}
+// The longest core that words are read to.
+const CORE: usize = 300;
 
 // The number of four hexadecimal digits.
 pub fn two_bytes_of(word: &[u8]) -> u16 {
-    (hex_of(word) % 65536) as u16
+    (hex_of(word) & 0xFFFF) as u16
 }
 
 // The byte of two hexadecimal digits.
 pub fn byte_of(word: &[u8]) -> u8 {
-    (hex_of(word) % 256) as u8
+    (hex_of(word) & 0xFF) as u8
 }
 
-// A byte so many times.
-fn repeated(byte: u8, count: usize) -> Run {
-    Run {
-        first: byte,
-        step: 0,
-        count,
+// Puts the bytes from one to another, past 255 from 0 on.
+fn put_rising(first: u8, last: u8, out: &mut Room) -> Result<(), AllocError> {
+    for step in 0..=last.wrapping_sub(first) {
+        out.put(&[first.wrapping_add(step)])?;
     }
+    Ok(())
 }
 
-// The bytes from one to another, past 255 from 0 on.
-fn rising(first: u8, last: u8) -> Run {
-    Run {
-        first,
-        step: 1,
-        count: (256 + last as usize - first as usize) % 256 + 1,
+// Puts the bytes of a word: one, one so many times, or those from one to another.
+fn put_bytes(word: &[u8], out: &mut Room) -> Result<(), AllocError> {
+    if word.contains(&b'*') {
+        let (count, _) = number_of(word);
+        let (_, byte) = cut(word, b'*');
+        return out.put_repeated(&[byte_of(byte)], count);
     }
+    if word.contains(&b'.') {
+        let (first, last) = cut(word, b'.');
+        return put_rising(byte_of(first), byte_of(behind(last, 1)), out);
+    }
+    out.put(&[byte_of(word)])
 }
 
-// The bytes of a word: one, one so many times, or those from one to another.
-fn meant(word: &[u8]) -> Run {
-    let star = find(word, b'*');
-    let dot = find(word, b'.');
-    if star < word.len() {
-        let count = number_of(word);
-        return repeated(byte_of(behind(word, star + 1)), count.value);
-    }
-    if dot < word.len() {
-        return rising(byte_of(word), byte_of(behind(word, dot + 2)));
-    }
-    repeated(byte_of(word), 1)
-}
-
-// Puts bytes behind the first n of a buffer, as far as it has the room, and answers how many it has then.
-fn append_run(run: Run, held: usize, out: &mut [u8]) -> usize
-    requires { held ≤ length out.old }
-    ensures { result ≤ length out.new }
-{
-    let step = run.step;
-    let mut byte = run.first;
-    let mut left = run.count;
-    let mut n = held;
-    while 0 < left {
-        if out.len() <= n {
-            return n;
+// Puts what words without brackets stand for; an address for which there is no room is left out.
+fn put_plain(words: &[u8], out: &mut Room) -> Result<(), AllocError> {
+    for word in words.split(|&b| b == b' ') {
+        match word {
+            [] => {}
+            [b'@', address @ ..] => out.put_whole(&hex_of(address).to_le_bytes())?,
+            _ => put_bytes(word, out)?,
         }
-        out[n] = byte;
-        byte = std::num::wrapping_add_u8(byte, step);
-        n += 1;
-        left -= 1;
     }
-    n
+    Ok(())
 }
 
-// Puts the four bytes of an address behind the first n bytes of a buffer that has the room.
-fn append_address(address: u32, held: usize, out: &mut [u8]) -> usize
-    requires { held ≤ length out.old }
-    ensures { result ≤ length out.new }
-{
-    if out.len() - held < 4 {
-        return held;
+// Puts the packet around the core that words stand for.
+fn put_packet(rt: &impl Print, words: &[u8], out: &mut Room) -> io::Result<()> {
+    if words.is_empty() {
+        return Ok(());
     }
-    little_endian::store_four(address, held, out);
-    held + 4
+    let alloc = out.allocator();
+    let mut core = Room::new(alloc, CORE);
+    put_plain(words, &mut core)?;
+    let mut message = vec![in alloc; 0; core.bytes().len() + 5]?;
+    if out.left() < message.len() {
+        return print!(rt; " no room for the packet");
+    }
+    if !packet::write(core.bytes(), &mut message) {
+        return print!(rt; " no packet around this core");
+    }
+    out.put(&message)?;
+    Ok(())
 }
 
-// Puts what a word stands for behind the first n bytes of a buffer; an empty word stands for nothing.
-fn append_word(word: &[u8], held: usize, out: &mut [u8]) -> usize
-    requires { held ≤ length out.old }
-    ensures { result ≤ length out.new }
-{
-    if word.len() == 0 {
-        return held;
+// Puts the bytes that words stand for.
+pub fn put(rt: &impl Print, words: &[u8], out: &mut Room) -> io::Result<()> {
+    let mut rest = words;
+    while !rest.is_empty() {
+        let (plain, others) = cut(rest, b'(');
+        let (core, behind) = cut(others, b')');
+        put_plain(plain, out)?;
+        put_packet(rt, core, out)?;
+        rest = behind;
     }
-    if word[0] == b'@' {
-        return append_address(hex_of(behind(word, 1)), held, out);
-    }
-    append_run(meant(word), held, out)
-}
-
-// Puts what words without brackets stand for behind the first n bytes of a buffer.
-fn append_plain(words: &[u8], held: usize, out: &mut [u8]) -> usize
-    requires { held ≤ length out.old }
-    ensures { result ≤ length out.new }
-{
-    let mut n = held;
-    let mut at = 0;
-    while at < words.len() {
-        let word = word_at(words, at);
-        n = append_word(word, n, out);
-        at = at + word.len() + 1;
-    }
-    n
-}
-
-// Puts the packet around the core that words stand for behind the first n bytes of a buffer.
-fn append_packet(rt: &impl Print, words: &[u8], held: usize, out: &mut [u8]) -> io::Result<usize>
-    requires { held ≤ length out.old }
-    ensures { IfOk result (λ n. n ≤ length out.new) }
-{
-    if words.len() == 0 {
-        return Ok(held);
-    }
-    let mut core = [0u8; 300];
-    let n = append_plain(words, 0, &mut core);
-    let end = held + n + 5;
-    if out.len() < end {
-        show::text(rt, b" no room for the packet")?;
-        return Ok(held);
-    }
-    if !packet::write(&core[..n], &mut out[held..end]) {
-        show::text(rt, b" no packet around this core")?;
-        return Ok(held);
-    }
-    Ok(end)
-}
-
-// Puts the bytes that words stand for behind the first n of a buffer, and answers how many it has then.
-pub fn append(rt: &impl Print, words: &[u8], held: usize, out: &mut [u8]) -> io::Result<usize>
-    ensures { IfOk result (λ n. n ≤ length out.new) }
-{
-    if out.len() < held {
-        return Ok(out.len());
-    }
-    let mut n = held;
-    let mut at = 0;
-    while at < words.len() {
-        let rest = behind(words, at);
-        let open = find(rest, b'(');
-        n = append_plain(&rest[..open], n, out);
-        let inside = behind(rest, open + 1);
-        let close = find(inside, b')');
-        n = append_packet(rt, &inside[..close], n, out)?;
-        at = at + open + close + 2;
-    }
-    Ok(n)
+    Ok(())
 }

@@ -1,4 +1,7 @@
 // Answers printed to standard output. The error of a write that fails is handed on.
+use loader::Mode;
+use refusal::Refused;
+use std::fmt::Display;
 use std::io;
 
 pub fn text(rt: &impl Print, words: &[u8]) -> io::Result<()> {
@@ -6,52 +9,68 @@ pub fn text(rt: &impl Print, words: &[u8]) -> io::Result<()> {
 }
 
 pub fn line_end(rt: &impl Print) -> io::Result<()> {
-    text(rt, b"\n")
+    println!(rt;)
 }
 
-// A number behind a space.
-pub fn decimal(rt: &impl Print, n: usize) -> io::Result<()> {
-    print!(rt; " {n}")
-}
-
-// A number in hexadecimal digits behind a space, with zeros in front up to so many digits, and to 16 at most.
-pub fn hex(rt: &impl Print, n: usize, digits: usize) -> io::Result<()> {
-    let width = digits.min(16);
-    print!(rt; " {n:0width$x}")
-}
-
-// A byte behind a space.
-pub fn byte(rt: &impl Print, b: u8) -> io::Result<()> {
-    hex(rt, b as usize, 2)
-}
-
+// Bytes in hexadecimal digits, each behind a space.
 pub fn bytes(rt: &impl Print, list: &[u8]) -> io::Result<()> {
-    for i in 0..list.len() {
-        byte(rt, list[i])?;
+    for b in list {
+        print!(rt; " {b:02x}")?;
     }
     Ok(())
 }
 
-pub fn numbers(rt: &impl Print, list: &[u64]) -> io::Result<()> {
-    for i in 0..list.len() {
-        let n = list[i];
+// Numbers, each behind a space.
+pub fn numbers<N: Display>(rt: &impl Print, list: &[N]) -> io::Result<()> {
+    for n in list {
         print!(rt; " {n}")?;
     }
     Ok(())
 }
 
-// The number of a refusal and its place.
-pub fn refused(rt: &impl Print, number: u8, place: usize) -> io::Result<()> {
-    text(rt, b"refused")?;
-    decimal(rt, number as usize)?;
-    text(rt, b" at")?;
-    decimal(rt, place)
+// The checksum of bytes, behind a space.
+pub fn checksum(rt: &impl Print, bytes: &[u8]) -> io::Result<()> {
+    let sum = crc::checksum(crc::START, bytes);
+    print!(rt; " {sum:04x}")
 }
 
-// Whether lent bytes are as they were.
+// The number of a refusal, and its place.
+pub fn refused(rt: &impl Print, refusal: Refused) -> io::Result<()> {
+    let number = u8::from(refusal.refusal);
+    let place = refusal.place;
+    print!(rt; " refused {number} at {place}")
+}
+
+// Whether lent memory is as it was.
 pub fn kept(rt: &impl Print, same: bool) -> io::Result<()> {
     if same {
-        return text(rt, b" kept");
+        return print!(rt; " kept");
     }
-    text(rt, b" touched")
+    print!(rt; " touched")
+}
+
+// Whether every byte of lent memory is still the value that it was lent with.
+pub fn kept_as(rt: &impl Print, lent: &[u8], before: u8) -> io::Result<()> {
+    kept(rt, byte_parts::every(lent, before))
+}
+
+// A refusal, and whether every byte of lent memory is still the value that it was lent with.
+pub fn refused_and_kept(
+    rt: &impl Print,
+    refusal: Refused,
+    lent: &[u8],
+    before: u8,
+) -> io::Result<()> {
+    refused(rt, refusal)?;
+    print!(rt; ",")?;
+    kept_as(rt, lent, before)
+}
+
+// The name of a mode.
+pub fn mode(rt: &impl Print, mode: Mode) -> io::Result<()> {
+    match mode {
+        Mode::Application => print!(rt; " application"),
+        Mode::Locked => print!(rt; " locked"),
+        Mode::Unlocked => print!(rt; " unlocked"),
+    }
 }

@@ -3,10 +3,13 @@ use crate::{packets, records};
 use std::io;
 use vector_lines::show;
 
+// How many bytes a vector has at most.
+const LONGEST: usize = 512;
+
 // The answer to a vector of a kind.
 fn answer(rt: &impl Print, kind: u8, bytes: &[u8]) -> io::Result<()> {
     match kind {
-        b'c' => packets::checksum(rt, bytes),
+        b'c' => show::checksum(rt, bytes),
         b's' => packets::continued(rt, bytes),
         b'j' => packets::joined(rt, bytes),
         b'm' => packets::message(rt, bytes),
@@ -17,32 +20,21 @@ fn answer(rt: &impl Print, kind: u8, bytes: &[u8]) -> io::Result<()> {
         b'r' => records::read(rt, bytes),
         b'v' => records::write(rt, bytes),
         b'b' => records::bit_map(rt, bytes),
-        _ => show::text(rt, b" no such kind"),
+        _ => print!(rt; " no such kind"),
     }
 }
 
-// A label, and the answer to the vector behind it if there is one.
-fn line(rt: &impl Print, text: &[u8]) -> io::Result<()> {
-    let vector = vector_lines::label(rt, text)?;
-    if vector.len() == 0 {
+// The answer to a kind and a list of bytes.
+fn vector(rt: &(impl Print + AllocGlobal), words: &[u8]) -> io::Result<()> {
+    let Some((&kind, list)) = words.split_first() else {
         return Ok(());
+    };
+    match vector_lines::bytes_of(rt.alloc(), list)? {
+        Some(bytes) if bytes.len() <= LONGEST => answer(rt, kind, &bytes),
+        _ => print!(rt; " not a list of at most {LONGEST} bytes"),
     }
-    let words = &vector[1..];
-    let mut bytes = [0u8; 512];
-    let n = vector_lines::bytes_of(words, &mut bytes);
-    if words.len() / 3 != n || words.len() % 3 != 0 {
-        return show::text(rt, b" not a list of at most 512 bytes");
-    }
-    answer(rt, vector[0], &bytes[..n])
 }
 
-pub fn run(rt: &impl Print, text: &[u8]) -> io::Result<()> {
-    let mut at = 0;
-    while at < text.len() {
-        let next = byte_parts::line_at(text, at);
-        line(rt, next)?;
-        show::line_end(rt)?;
-        at = at + next.len() + 1;
-    }
-    Ok(())
+pub fn run(rt: &(impl Print + AllocGlobal), input: &[u8]) -> io::Result<()> {
+    vector_lines::answer_lines(rt, input, |words| vector(rt, words))
 }

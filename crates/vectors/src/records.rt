@@ -1,4 +1,6 @@
 // The sensor record, temperatures and total power.
+use byte_parts::behind;
+use little_endian::{Number, byte_at};
 use refusal::Refusal;
 use sensor_record::{ReadRecord, WroteRecord};
 use sensor_values::{
@@ -8,60 +10,47 @@ use sensor_values::{
 use std::io;
 use vector_lines::show;
 
-// A temperature behind a space.
-fn degrees(rt: &impl Print, t: i8) -> io::Result<()> {
-    let b = temperature::to_byte(t);
-    if 0 <= t {
-        return show::decimal(rt, b as usize);
-    }
-    show::text(rt, b" -")?;
-    print!(rt; "{}", 256 - b as u64)
-}
-
 // The temperatures that bytes carry.
 pub fn temperatures(rt: &impl Print, bytes: &[u8]) -> io::Result<()> {
-    for i in 0..bytes.len() {
-        degrees(rt, temperature::from_byte(bytes[i]))?;
+    for &byte in bytes {
+        let degrees = temperature::from_byte(byte);
+        print!(rt; " {degrees}")?;
     }
     Ok(())
 }
 
 // The greater of two temperatures.
 pub fn greater(rt: &impl Print, bytes: &[u8]) -> io::Result<()> {
-    let first = temperature::from_byte(little_endian::byte_at(bytes, 0));
-    let second = temperature::from_byte(little_endian::byte_at(bytes, 1));
-    degrees(
-        rt,
-        temperature::from_byte(temperature::greater_byte(first, second)),
-    )
+    let first = temperature::from_byte(byte_at(bytes, 0));
+    let second = temperature::from_byte(byte_at(bytes, 1));
+    let degrees = temperature::from_byte(temperature::greater_byte(first, second));
+    print!(rt; " {degrees}")
 }
 
 // Total power from raw volts and raw amps.
 pub fn power(rt: &impl Print, bytes: &[u8]) -> io::Result<()> {
-    let volts = little_endian::two_at(bytes, 0);
-    let amps = little_endian::two_at(bytes, 2);
-    show::decimal(rt, sensor_record::total_power(volts, amps) as usize)?;
-    show::text(rt, b" W")
+    let watts = sensor_record::total_power(u16::number_at(bytes, 0), u16::number_at(bytes, 2));
+    print!(rt; " {watts} W")
 }
 
 fn refused(rt: &impl Print, why: Refusal) -> io::Result<()> {
-    show::text(rt, b" refused")?;
-    show::decimal(rt, refusal::number(why) as usize)
+    let number = u8::from(why);
+    print!(rt; " refused {number}")
 }
 
 fn status(rt: &impl Print, s: BoardStatus) -> io::Result<()> {
-    show::text(rt, b" status")?;
+    print!(rt; " status")?;
     show::numbers(
         rt,
         &[
-            s.tcrit as u64,
-            s.power_good as u64,
-            s.twarn as u64,
-            s.hbm_cattrip as u64,
-            s.module0_present as u64,
-            s.module1_present as u64,
-            s.aux_cable as u64,
-            s.flash_writes as u64,
+            s.tcrit,
+            s.power_good,
+            s.twarn,
+            s.hbm_cattrip,
+            s.module0_present,
+            s.module1_present,
+            s.aux_cable,
+            s.flash_writes,
         ],
     )
 }
@@ -69,19 +58,19 @@ fn status(rt: &impl Print, s: BoardStatus) -> io::Result<()> {
 fn security(rt: &impl Print, s: SecurityStatus) -> io::Result<()> {
     let one = s.flash1;
     let two = s.flash2;
-    show::text(rt, b", security")?;
+    print!(rt; ", security")?;
     show::numbers(
         rt,
         &[
-            s.spi_device as u64,
-            one.recovery as u64,
-            one.mode as u64,
-            one.write_enable as u64,
-            two.recovery as u64,
-            two.mode as u64,
-            two.write_enable as u64,
-            s.authentication as u64,
-            s.jtag as u64,
+            s.spi_device,
+            one.recovery,
+            one.mode,
+            one.write_enable,
+            two.recovery,
+            two.mode,
+            two.write_enable,
+            s.authentication,
+            s.jtag,
         ],
     )
 }
@@ -90,19 +79,18 @@ fn sensors(rt: &impl Print, s: BoardSensors) -> io::Result<()> {
     let low = s.input_3v3;
     let main = s.input_12v;
     let aux = s.input_aux;
-    show::text(rt, b", sensors")?;
-    degrees(rt, s.inlet)?;
-    degrees(rt, s.outlet)?;
+    print!(rt; ", sensors")?;
+    show::numbers(rt, &[s.inlet, s.outlet])?;
     show::numbers(
         rt,
         &[
-            low.current as u64,
-            low.voltage as u64,
-            main.current as u64,
-            main.voltage as u64,
-            aux.current as u64,
-            aux.voltage as u64,
-            s.total_power as u64,
+            low.current,
+            low.voltage,
+            main.current,
+            main.voltage,
+            aux.current,
+            aux.voltage,
+            s.total_power,
         ],
     )
 }
@@ -110,66 +98,48 @@ fn sensors(rt: &impl Print, s: BoardSensors) -> io::Result<()> {
 fn device(rt: &impl Print, d: Device) -> io::Result<()> {
     let s = d.status;
     let e = d.errors;
-    show::text(rt, b", device")?;
+    print!(rt; ", device")?;
     show::numbers(
         rt,
-        &[
-            s.done as u64,
-            s.init_b as u64,
-            s.error_out as u64,
-            s.error_status as u64,
-            s.keep_alive as u64,
-        ],
+        &[s.done, s.init_b, s.error_out, s.error_status, s.keep_alive],
     )?;
-    degrees(rt, d.fpga_temperature)?;
-    degrees(rt, d.hbm_temperature)?;
+    show::numbers(rt, &[d.fpga_temperature, d.hbm_temperature])?;
     show::numbers(
         rt,
-        &[
-            e.ddr_uncorrectable as u64,
-            e.ddr_correctable as u64,
-            e.pcie_uncorrectable as u64,
-            e.pcie_correctable as u64,
-        ],
-    )
+        &[e.ddr_uncorrectable, e.ddr_correctable, e.pcie_uncorrectable],
+    )?;
+    show::numbers(rt, &[e.pcie_correctable])
 }
 
 fn module(rt: &impl Print, m: NetworkModule) -> io::Result<()> {
     let s = m.status;
-    show::text(rt, b", module")?;
-    degrees(rt, m.temperature)?;
+    print!(rt; ", module")?;
+    show::numbers(rt, &[m.temperature])?;
     show::numbers(
         rt,
         &[
-            s.present as u64,
-            s.interrupt as u64,
-            s.low_power as u64,
-            s.rate_select as u64,
-            s.rx_loss as u64,
-            s.tx_disable as u64,
-            s.tx_fault as u64,
-            s.power_enable as u64,
-            s.over_current as u64,
+            s.present,
+            s.interrupt,
+            s.low_power,
+            s.rate_select,
+            s.rx_loss,
+            s.tx_disable,
+            s.tx_fault,
+            s.power_enable,
+            s.over_current,
         ],
     )
 }
 
 // The values of a record, each group's in the order of its bits.
 fn values(rt: &impl Print, r: SensorRecord) -> io::Result<()> {
-    let board = r.status;
-    let access = r.security;
-    let readings = r.sensors;
-    let one = r.device1;
-    let two = r.device2;
-    let lower = r.module0;
-    let upper = r.module1;
-    status(rt, board)?;
-    security(rt, access)?;
-    sensors(rt, readings)?;
-    device(rt, one)?;
-    device(rt, two)?;
-    module(rt, lower)?;
-    module(rt, upper)
+    status(rt, r.status)?;
+    security(rt, r.security)?;
+    sensors(rt, r.sensors)?;
+    device(rt, r.device1)?;
+    device(rt, r.device2)?;
+    module(rt, r.module0)?;
+    module(rt, r.module1)
 }
 
 // A record read.
@@ -297,10 +267,10 @@ fn made(v: [u8; 28]) -> SensorRecord {
 fn write_over(rt: &impl Print, values: SensorRecord, out: &mut [u8]) -> io::Result<()> {
     match sensor_record::write(values, out) {
         WroteRecord::Refused(why) => refused(rt, why)?,
-        WroteRecord::Written => show::text(rt, b" written")?,
+        WroteRecord::Written => print!(rt; " written")?,
     }
     if byte_parts::every(out, 0xEE) {
-        return show::text(rt, b", output as it was");
+        return print!(rt; ", output as it was");
     }
     show::bytes(rt, out)
 }
@@ -310,11 +280,10 @@ pub fn write(rt: &impl Print, bytes: &[u8]) -> io::Result<()> {
     let mut v = [0u8; 28];
     little_endian::store(bytes, 0, &mut v);
     let mut out = [0xEEu8; 72];
-    let n = little_endian::byte_at(bytes, 0) as usize;
-    if 72 < n {
-        return show::text(rt, b" no output of that length");
+    match out.get_mut(..usize::from(byte_at(bytes, 0))) {
+        Some(lent) => write_over(rt, made(v), lent),
+        None => print!(rt; " no output of that length"),
     }
-    write_over(rt, made(v), &mut out[..n])
 }
 
 // Whether values are written as the bytes that they were read from.
@@ -322,17 +291,17 @@ fn written_again(values: SensorRecord, bytes: &[u8]) -> bool {
     let mut out = [0xEEu8; 64];
     match sensor_record::write(values, &mut out) {
         WroteRecord::Refused(_) => false,
-        WroteRecord::Written => check::same(&out, bytes),
+        WroteRecord::Written => out.as_slice() == bytes,
     }
 }
 
 // Whether a record with one more bit set is read, and written as it was.
 fn taken(base: [u8; 64], at: usize, bit: u8) -> bool {
     let mut bytes = base;
-    if 63 < at {
+    let Some(byte) = bytes.get_mut(at) else {
         return false;
-    }
-    bytes[at] = bytes[at] | (1u8 << (bit % 8));
+    };
+    *byte |= 1 << (bit % 8);
     match sensor_record::read(&bytes) {
         ReadRecord::Refused(_) => false,
         ReadRecord::Held(values) => written_again(values, &bytes),
@@ -341,27 +310,26 @@ fn taken(base: [u8; 64], at: usize, bit: u8) -> bool {
 
 fn mark(rt: &impl Print, base: [u8; 64], at: usize, bit: u8) -> io::Result<()> {
     if taken(base, at, bit) {
-        return show::text(rt, b".");
+        return print!(rt; ".");
     }
-    show::text(rt, b"x")
+    print!(rt; "x")
 }
 
 // The bits of a byte, the highest first.
 fn byte_map(rt: &impl Print, base: [u8; 64], at: usize) -> io::Result<()> {
-    show::text(rt, b" ")?;
-    for i in 0..8u8 {
-        mark(rt, base, at, 7 - i)?;
+    print!(rt; " ")?;
+    for bit in (0..8u8).rev() {
+        mark(rt, base, at, bit)?;
     }
     Ok(())
 }
 
 // The bits of a field at an offset, of so many bytes, the highest first.
 fn field_map(rt: &impl Print, base: [u8; 64], bytes: &[u8]) -> io::Result<()> {
-    let at = little_endian::byte_at(bytes, 0) as usize;
-    let mut left = little_endian::byte_at(bytes, 1) as usize;
-    while 0 < left {
-        left -= 1;
-        byte_map(rt, base, at + left)?;
+    let start = usize::from(byte_at(bytes, 0));
+    let length = usize::from(byte_at(bytes, 1));
+    for at in (start..start + length).rev() {
+        byte_map(rt, base, at)?;
     }
     Ok(())
 }
@@ -369,8 +337,6 @@ fn field_map(rt: &impl Print, base: [u8; 64], bytes: &[u8]) -> io::Result<()> {
 // Each bit of a field set in the record that follows offset and length, or in zeros if none follows.
 pub fn bit_map(rt: &impl Print, bytes: &[u8]) -> io::Result<()> {
     let mut base = [0u8; 64];
-    if 2 < bytes.len() {
-        little_endian::store(&bytes[2..], 0, &mut base);
-    }
+    little_endian::store(behind(bytes, 2), 0, &mut base);
     field_map(rt, base, bytes)
 }
