@@ -2,48 +2,35 @@
 // these functions asks anything of its input: a part that is not there is empty.
 #![tactic(auto)]
 
-ghost use Rattle.std.specs.Prelude.{◌-◌, ◌≤◌, length};
+ghost use Rattle.std.specs.Prelude.{◌≡◌, ◌-◌, ◌≤◌, length, take, drop, All, IsTrue, ◌↔◌};
 
 // The first bytes of a list, at most so many.
 pub fn front(bytes: &[u8], count: usize) -> &[u8]
-    ensures { length result.now ≤ length bytes.now }
+    ensures { result.now ≡ take count bytes.now }
 {
-    if bytes.len() < count {
-        return bytes;
-    }
-    &bytes[..count]
+    &bytes[..count.min(bytes.len())]
 }
 
 // The same of a list that may be changed.
 pub fn front_mut(bytes: &mut [u8], count: usize) -> &mut [u8] {
-    if bytes.len() < count {
-        return bytes;
-    }
-    &mut bytes[..count]
+    let held = count.min(bytes.len());
+    &mut bytes[..held]
 }
 
 // What stands from a place on, nothing if the place is past the end.
-pub fn behind(words: &[u8], at: usize) -> &[u8]
-    ensures { length result.now ≤ length words.now - at }
+pub fn behind(bytes: &[u8], at: usize) -> &[u8]
+    ensures { result.now ≡ drop at bytes.now }
 {
-    if words.len() <= at {
-        return &words[words.len()..];
-    }
-    &words[at..]
+    &bytes[at.min(bytes.len())..]
 }
 
 // The place of the first such byte, or the end.
 pub fn find(text: &[u8], wanted: u8) -> usize
     ensures { result ≤ length text.now }
 {
-    let mut i = 0;
-    while i < text.len() {
-        if text[i] == wanted {
-            return i;
-        }
-        i += 1;
-    }
-    i
+    text.iter()
+        .position(|&byte| byte == wanted)
+        .unwrap_or(text.len())
 }
 
 // What stands from a place on before the next such byte.
@@ -51,8 +38,7 @@ pub fn part_at(text: &[u8], at: usize, end: u8) -> &[u8]
     ensures { length result.now ≤ length text.now - at }
 {
     let rest = behind(text, at);
-    let n = find(rest, end);
-    &rest[..n]
+    &rest[..find(rest, end)]
 }
 
 // The line from a place on, without its end.
@@ -62,24 +48,9 @@ pub fn line_at(text: &[u8], at: usize) -> &[u8]
     part_at(text, at, b'\n')
 }
 
-// Where the part after the one at a place begins; past the end, the place itself.
-fn next_part(text: &[u8], at: usize, end: u8) -> usize {
-    let length = part_at(text, at, end).len();
-    if text.len() <= at {
-        return at;
-    }
-    at + length + 1
-}
-
 // The part of a text that has a number, from 0 on, each with such a byte after it; nothing where the text has fewer.
 pub fn part_of(text: &[u8], number: usize, end: u8) -> &[u8] {
-    let mut at = 0;
-    let mut left = number;
-    while 0 < left {
-        at = next_part(text, at, end);
-        left -= 1;
-    }
-    part_at(text, at, end)
+    text.split(|&byte| byte == end).nth(number).unwrap_or(&[])
 }
 
 // The line of a text that has a number, from 0 on; nothing where the text has fewer.
@@ -88,11 +59,8 @@ pub fn line_of(text: &[u8], number: usize) -> &[u8] {
 }
 
 // Whether every byte is the value.
-pub fn every(bytes: &[u8], value: u8) -> bool {
-    for i in 0..bytes.len() {
-        if bytes[i] != value {
-            return false;
-        }
-    }
-    true
+pub fn every(bytes: &[u8], value: u8) -> bool
+    ensures { IsTrue result ↔ All (λ byte. byte ≡ value) bytes.now }
+{
+    bytes.iter().all(|&byte| byte == value)
 }

@@ -96,7 +96,7 @@ fn line(
 }
 
 pub fn run(rt: &impl Print, input: &[u8]) -> io::Result<()> {
-    let mut region = input_rooms::region_room();
+    let mut region = [0u8; input_rooms::REGION];
     let mut password = [0xFFu8; 300];
     let mut bytes = [0u8; 16400];
     let mut setup = settings::start();

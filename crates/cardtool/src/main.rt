@@ -23,10 +23,10 @@ fn run(rt: &(impl System + Env + Files + RandomSource + Alloc)) -> io::Result<()
     let request = arguments::read(rt);
     let command = request.command;
     let options = request.options;
-    let mut text = input_rooms::text_room();
-    let mut script = input_rooms::script_room();
-    let mut region = input_rooms::region_room();
-    let mut known = input_rooms::known_room();
+    let mut text = [0u8; input_rooms::TEXT];
+    let mut script = [0u8; input_rooms::SCRIPT];
+    let mut region = [0u8; input_rooms::REGION];
+    let mut known = [0u8; input_rooms::KNOWN];
     match command {
         Command::Plan => tool_output::plan::run(rt, options, &mut text, &mut script, &mut region),
         Command::Check | Command::Cuts => {

@@ -74,10 +74,10 @@ fn line(
 }
 
 pub fn run(rt: &impl Print, input: &[u8]) -> io::Result<()> {
-    let mut script = input_rooms::script_room();
-    let mut text = input_rooms::text_room();
-    let mut region = input_rooms::region_room();
-    let mut known = input_rooms::known_room();
+    let mut script = [0u8; input_rooms::SCRIPT];
+    let mut text = [0u8; input_rooms::TEXT];
+    let mut region = [0u8; input_rooms::REGION];
+    let mut known = [0u8; input_rooms::KNOWN];
     let mut at = 0;
     while at < input.len() {
         let next = byte_parts::line_at(input, at);

@@ -46,8 +46,8 @@ pub fn checksum(start: u16, bytes: &[u8]) -> u16
     ensures { result ≡ register_of start bytes.now }
 {
     let mut r = start;
-    for i in 0..bytes.len() {
-        r = byte_in(r, bytes[i]);
+    for &byte in bytes {
+        r = byte_in(r, byte);
     }
     r
 }

@@ -1,14 +1,17 @@
 -- Laws of numbers as bytes: what is written is read back, and what is read is written again.
 -- Assumes nothing.
 use mathlib.Core.Path.{◌≡◌, refl, sym, ap, ◌∙◌}
-use mathlib.Core.List.{List, [], ◌∷◌}
+use mathlib.Core.Bool.{Bool, true, false}
+use mathlib.Core.List.{List, [], ◌∷◌, ◌++◌}
 use Prim.Native.Nat.{ℕ, zero, suc, ◌+◌, ◌*◌, ◌/◌, ◌%◌, ◌^◌, ◌<◌, ◌≤◌}
 use native.Mathlib.Nat.{pow-succ'}
 use native.Mathlib.Numerals.{add-one}
 use native.Mathlib.Omega.{arith}
-use lib.ListN.{length, get_or, drop, get_or-eq_default}
+use borrow.Author.Tests.{ltb-true, ltb-false}
+use lib.Dec.{ltb}
+use lib.ListN.{length, get_or, take, drop, replicate, get_or-eq_default, drop_of_length-le}
 use lib.Seq.{drop-cons, drop-length}
-use Rattle.little_endian.specs.Bytes.{Bytes, number_at, little_endian}
+use Rattle.little_endian.specs.Bytes.{Bytes, number_at, stretch, little_endian}
 
 -- past the end there is no number but 0
 pub number_past : (count at : ℕ) (b : List ℕ) → length b ≤ at → number_at count at b ≡ 0
@@ -34,11 +37,6 @@ number-again (suc count) n h =
     let rest : n / 256 < 256 ^ count = omega arith in
     omega (arith, number-again count (n / 256) rest)
 
--- so many elements of a list from a place on
-abbrev pub stretch : ℕ → ℕ → List ℕ → List ℕ
-stretch zero at b = []
-stretch (suc count) at b = get_or b at 0 ∷ stretch count (at + 1) b
-
 -- the elements from a place to the end
 pub stretched : (b : List ℕ) (at count : ℕ) → length b ≡ at + count → drop at b ≡ stretch count at b
 stretched b at zero h = let e : at ≡ length b = omega arith in rw (e, drop-length)
@@ -47,6 +45,22 @@ stretched b at (suc count) h =
     let rest : length b ≡ at + 1 + count = omega arith in
     drop-cons b at 0 inside
     ∙ ap (λ (l : List ℕ). get_or b at 0 ∷ l) (ap (λ (n : ℕ). drop n b) (sym (add-one at)) ∙ stretched b (at + 1) count rest)
+
+past : (count at : ℕ) (b : List ℕ) → length b ≤ at → stretch count at b ≡ replicate count 0
+past zero at b h = refl
+past (suc count) at b h = rw (get_or-eq_default b 0 h, past count (at + 1) b (omega arith)) refl
+
+-- they are what a list has of them, and zeros behind it
+pub padded : (count at : ℕ) (b : List ℕ)
+    → take count (drop at b) ++ drop (length (take count (drop at b))) (replicate count 0) ≡ stretch count at b
+padded zero at b = refl
+padded (suc count) at b = go (padded count (at + 1) b) (ltb at (length b)) refl
+  where
+    go : take count (drop (at + 1) b) ++ drop (length (take count (drop (at + 1) b))) (replicate count 0) ≡ stretch count (at + 1) b
+        → (t : Bool) → ltb at (length b) ≡ t
+        → take (suc count) (drop at b) ++ drop (length (take (suc count) (drop at b))) (replicate (suc count) 0) ≡ stretch (suc count) at b
+    go rest true e = rw (drop-cons b at 0 (ltb-true _ _ e), ← add-one at) (ap (λ (l : List ℕ). get_or b at 0 ∷ l) rest)
+    go rest false e = let h : length b ≤ at = ltb-false _ _ e in rw (drop_of_length-le b h) (sym (past (suc count) at b h))
 
 module _ (b : List ℕ) (bytes : Bytes b) where
   -- the bytes of a number are those that it was read from

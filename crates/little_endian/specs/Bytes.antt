@@ -11,6 +11,11 @@ unfoldable pub number_at : ℕ → ℕ → List ℕ → ℕ
 number_at zero at bytes = 0
 number_at (suc count) at bytes = get_or bytes at 0 + 256 * number_at count (at + 1) bytes
 
+-- so many elements of a list from a place on; one past the end counts as 0
+abbrev pub stretch : ℕ → ℕ → List ℕ → List ℕ
+stretch zero at bytes = []
+stretch (suc count) at bytes = get_or bytes at 0 ∷ stretch count (at + 1) bytes
+
 -- so many bytes of a number, low byte first
 abbrev pub little_endian : ℕ → ℕ → List ℕ
 little_endian zero n = []

@@ -4,73 +4,123 @@
 #![tactic(auto)]
 
 ghost use Rattle.std.specs.Prelude.{◌≡◌, get_or};
-ghost use Rattle.little_endian.specs.Bytes.{number_at, little_endian, stored_at};
+ghost use Rattle.little_endian.specs.Bytes.{number_at, little_endian, stretch, stored_at};
+
+use byte_parts::{behind, front};
 
 // The byte at a place.
 pub fn byte_at(bytes: &[u8], at: usize) -> u8
     ensures { result ≡ get_or bytes.now at 0 }
 {
-    if at < bytes.len() {
-        return bytes[at];
-    }
-    0
+    bytes.get(at).copied().unwrap_or(0)
 }
 
-// The number of the two bytes from a place on.
-pub fn two_at(bytes: &[u8], at: usize) -> u16
-    ensures { result ≡ number_at 2 at bytes.now }
+// So many bytes from a place on.
+fn array_at<const N: usize>(bytes: &[u8], at: usize) -> [u8; N]
+    ensures { result ≡ stretch N at bytes.now }
 {
-    if bytes.len() <= at {
-        return 0;
-    }
-    let low = byte_at(bytes, at);
-    let high = byte_at(bytes, at + 1);
-    low as u16 + 256 * high as u16
-}
-
-// The number of the four bytes from a place on.
-pub fn four_at(bytes: &[u8], at: usize) -> u32
-    ensures { result ≡ number_at 4 at bytes.now }
-{
-    if bytes.len() <= at {
-        return 0;
-    }
-    let low = two_at(bytes, at);
-    let high = two_at(bytes, at + 2);
-    low as u32 + 65536 * high as u32
+    let mut array = [0u8; N];
+    let held = front(behind(bytes, at), N);
+    array[..held.len()].copy_from_slice(held);
+    array
 }
 
 // New bytes stored from a place on, if they fit there.
 pub fn store(new: &[u8], at: usize, out: &mut [u8])
     ensures { out.new ≡ stored_at at new.now out.old }
 {
-    if out.len() < at {
-        return;
+    if at <= out.len() && new.len() <= out.len() - at {
+        out[at..at + new.len()].copy_from_slice(new);
     }
-    if out.len() - at < new.len() {
-        return;
+}
+
+// A number that stands in so many bytes.
+pub trait Number: Copy {
+    ghost use Rattle.std.specs.Prelude.{◌≡◌, ℕ};
+    ghost use Rattle.little_endian.specs.Bytes.{number_at, little_endian, stored_at};
+
+    ghost width: { ℕ };
+
+    ghost value: { Self → ℕ };
+
+    // The number of the bytes from a place on.
+    fn number_at(bytes: &[u8], at: usize) -> Self
+        ensures { value result ≡ number_at width at bytes.now };
+
+    // The bytes of the number stored from a place on, if they fit there.
+    fn store_at(self, at: usize, out: &mut [u8])
+        ensures { out.new ≡ stored_at at (little_endian width (value self)) out.old };
+}
+
+impl Number for u16 {
+    ghost width = { 2 };
+
+    ghost value = { λ n. n };
+
+    fn number_at(bytes: &[u8], at: usize) -> u16 {
+        u16::from_le_bytes(array_at(bytes, at))
     }
-    out[at..at + new.len()].copy_from_slice(new);
+
+    fn store_at(self, at: usize, out: &mut [u8]) {
+        let two = self.to_le_bytes();
+        store(&two, at, out);
+    }
+}
+
+impl Number for u32 {
+    ghost width = { 4 };
+
+    ghost value = { λ n. n };
+
+    fn number_at(bytes: &[u8], at: usize) -> u32 {
+        u32::from_le_bytes(array_at(bytes, at))
+    }
+
+    fn store_at(self, at: usize, out: &mut [u8]) {
+        let four = self.to_le_bytes();
+        store(&four, at, out);
+    }
+}
+
+impl Number for u64 {
+    ghost width = { 8 };
+
+    ghost value = { λ n. n };
+
+    fn number_at(bytes: &[u8], at: usize) -> u64 {
+        u64::from_le_bytes(array_at(bytes, at))
+    }
+
+    fn store_at(self, at: usize, out: &mut [u8]) {
+        let eight = self.to_le_bytes();
+        store(&eight, at, out);
+    }
+}
+
+// The number of the two bytes from a place on.
+pub fn two_at(bytes: &[u8], at: usize) -> u16
+    ensures { result ≡ number_at 2 at bytes.now }
+{
+    u16::number_at(bytes, at)
+}
+
+// The number of the four bytes from a place on.
+pub fn four_at(bytes: &[u8], at: usize) -> u32
+    ensures { result ≡ number_at 4 at bytes.now }
+{
+    u32::number_at(bytes, at)
 }
 
 // The two bytes of a number stored from a place on, if they fit there.
 pub fn store_two(n: u16, at: usize, out: &mut [u8])
     ensures { out.new ≡ stored_at at (little_endian 2 n) out.old }
 {
-    let low = (n % 256) as u8;
-    let high = (n / 256 % 256) as u8;
-    store(&[low, high], at, out);
+    n.store_at(at, out);
 }
 
 // The four bytes of a number stored from a place on, if they fit there.
 pub fn store_four(n: u32, at: usize, out: &mut [u8])
     ensures { out.new ≡ stored_at at (little_endian 4 n) out.old }
 {
-    let new = [
-        (n % 256) as u8,
-        (n / 256 % 256) as u8,
-        (n / 256 / 256 % 256) as u8,
-        (n / 256 / 256 / 256 % 256) as u8,
-    ];
-    store(&new, at, out);
+    n.store_at(at, out);
 }

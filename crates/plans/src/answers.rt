@@ -81,8 +81,8 @@ fn send_over(
     text: &[u8],
     size: usize,
 ) -> io::Result<()> {
-    let mut picture = input_rooms::region_room();
-    let mut region = input_rooms::region_room();
+    let mut picture = [0u8; input_rooms::REGION];
+    let mut region = [0u8; input_rooms::REGION];
     if region.len() < size {
         return show::text(rt, b" no region of that length");
     }

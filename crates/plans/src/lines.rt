@@ -85,8 +85,8 @@ fn line(rt: &impl Print, words: &[u8], text: &mut [u8], out: &mut [u8]) -> io::R
 }
 
 pub fn run(rt: &impl Print, input: &[u8]) -> io::Result<()> {
-    let mut text = input_rooms::text_room();
-    let mut out = input_rooms::text_room();
+    let mut text = [0u8; input_rooms::TEXT];
+    let mut out = [0u8; input_rooms::TEXT];
     let mut at = 0;
     while at < input.len() {
         let next = byte_parts::line_at(input, at);

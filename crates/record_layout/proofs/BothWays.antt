@@ -5,8 +5,8 @@ use mathlib.Core.List.{List, [], ◌∷◌, ◌++◌}
 use Prim.Native.Nat.{ℕ, ◌^◌, ◌<◌}
 use lib.ListN.{length, get_or}
 use lib.Signed.{mag}
-use Rattle.little_endian.specs.Bytes.{Bytes, number_at}
-use Rattle.little_endian.proofs.Numbers.{number-again, stretch, stretched, bytes-again}
+use Rattle.little_endian.specs.Bytes.{Bytes, number_at, stretch}
+use Rattle.little_endian.proofs.Numbers.{number-again, stretched, bytes-again}
 use Rattle.temperature.specs.Temperature.{temperature_of, byte_of}
 use Rattle.temperature.proofs.Laws.{temperature-again, byte-again}
 use Rattle.sensor_values.specs.Layout.{input_bytes, sensor_bytes, error_bytes}

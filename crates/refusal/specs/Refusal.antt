@@ -3,6 +3,7 @@
 -- Assumes nothing.
 use Rattle.std.specs.Prelude.{ℕ}
 use Rattle.refusal.specs.declared.Refusal.{Refusal}
+use Rattle.refusal.specs.declared.Refused.{Refused}
 use Rattle.refusal.specs.declared.Refusal.TheVariants.{
   RegionSize,
   PasswordLength,
@@ -44,3 +45,7 @@ number_of RequestUnknown = 15
 number_of RequestForOtherCard = 16
 number_of RecordUnsound = 17
 number_of CutBeyondWork = 21
+
+-- a refusal for which no place is named
+abbrev pub at_no_place : Refusal → Refused
+at_no_place refusal = record { refusal = refusal; place = 0 }

@@ -6,7 +6,7 @@
 ghost use Rattle.std.specs.Prelude.{◌≡◌};
 ghost use Rattle.refusal.specs.Refusal.{number_of};
 
-#[derive(Clone, Copy)]
+#[derive(Clone, Copy, PartialEq, Eq, Debug)]
 pub enum Refusal {
     // N is bad, or a region is not N long, or its known bits are not N/8.
     RegionSize,
@@ -46,28 +46,59 @@ pub enum Refusal {
     CutBeyondWork,
 }
 
+// A refusal, and the place at which it is given: 0 where no place is named.
+#[derive(Clone, Copy, PartialEq, Eq, Debug)]
+pub struct Refused {
+    pub refusal: Refusal,
+    pub place: usize,
+}
+
+// The papers' number of a refusal.
+impl From<Refusal> for u8 {
+    ghost use Rattle.std.specs.Prelude.{◌≡◌};
+    ghost use Rattle.refusal.specs.Refusal.{number_of};
+
+    ghost from_gives = { λ refusal number. number ≡ number_of refusal };
+
+    fn from(refusal: Refusal) -> u8 {
+        match refusal {
+            Refusal::RegionSize => 1,
+            Refusal::PasswordLength => 2,
+            Refusal::EntryOutside => 14,
+            Refusal::TooLong => 18,
+            Refusal::TextMalformed => 3,
+            Refusal::AddressOutside => 4,
+            Refusal::AddressRepeated => 5,
+            Refusal::OutputShort => 13,
+            Refusal::ScriptHead => 6,
+            Refusal::PacketCut => 7,
+            Refusal::PictureDiffers => 10,
+            Refusal::RefusedOverZeros => 8,
+            Refusal::BytesAfterStart => 11,
+            Refusal::NotStarted => 12,
+            Refusal::RequestUnknown => 15,
+            Refusal::RequestForOtherCard => 16,
+            Refusal::RecordUnsound => 17,
+            Refusal::CutBeyondWork => 21,
+        }
+    }
+}
+
+// A refusal for which no place is named.
+impl From<Refusal> for Refused {
+    ghost use Rattle.std.specs.Prelude.{◌≡◌};
+    ghost use Rattle.refusal.specs.Refusal.{at_no_place};
+
+    ghost from_gives = { λ refusal refused. refused ≡ at_no_place refusal };
+
+    fn from(refusal: Refusal) -> Refused {
+        Refused { refusal, place: 0 }
+    }
+}
+
 // The papers' number of a refusal.
 pub fn number(refusal: Refusal) -> u8
     ensures { result ≡ number_of refusal }
 {
-    match refusal {
-        Refusal::RegionSize => 1,
-        Refusal::PasswordLength => 2,
-        Refusal::EntryOutside => 14,
-        Refusal::TooLong => 18,
-        Refusal::TextMalformed => 3,
-        Refusal::AddressOutside => 4,
-        Refusal::AddressRepeated => 5,
-        Refusal::OutputShort => 13,
-        Refusal::ScriptHead => 6,
-        Refusal::PacketCut => 7,
-        Refusal::PictureDiffers => 10,
-        Refusal::RefusedOverZeros => 8,
-        Refusal::BytesAfterStart => 11,
-        Refusal::NotStarted => 12,
-        Refusal::RequestUnknown => 15,
-        Refusal::RequestForOtherCard => 16,
-        Refusal::RecordUnsound => 17,
-        Refusal::CutBeyondWork => 21,
-    }
+    u8::from(refusal)
 }

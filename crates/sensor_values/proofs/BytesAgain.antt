@@ -6,8 +6,8 @@ use mathlib.Core.List.{List, [], ◌∷◌, ◌++◌}
 use Prim.Native.Nat.{ℕ, ◌+◌, ◌%◌}
 use native.Mathlib.Nat.{mod-eq_of_lt}
 use lib.ListN.{length, get_or}
-use Rattle.little_endian.specs.Bytes.{Bytes, number_at, little_endian}
-use Rattle.little_endian.proofs.Numbers.{stretch, stretched, bytes-again, number_lt}
+use Rattle.little_endian.specs.Bytes.{Bytes, number_at, little_endian, stretch}
+use Rattle.little_endian.proofs.Numbers.{stretched, bytes-again, number_lt}
 use Rattle.temperature.proofs.Laws.{byte-again}
 use Rattle.sensor_values.specs.Layout.{packed, status_bits, security_bits, device_status_bits, module_status_bits, input_bytes}
 use Rattle.sensor_values.specs.Layout.{sensor_bytes, error_bytes, device_bytes, module_bytes, bytes_of}

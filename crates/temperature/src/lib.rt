@@ -9,22 +9,14 @@ ghost use Rattle.temperature.specs.Temperature.{temperature_of, byte_of, greater
 pub fn from_byte(b: u8) -> i8
     ensures { result ≡ temperature_of b }
 {
-    if b < 128 {
-        b as i8
-    } else {
-        (b as i16 - 256) as i8
-    }
+    b.cast_signed()
 }
 
 // The byte that carries a temperature.
 pub fn to_byte(t: i8) -> u8
     ensures { result ≡ byte_of t }
 {
-    if 0 <= t {
-        t as u8
-    } else {
-        (t as i16 + 256) as u8
-    }
+    t.cast_unsigned()
 }
 
 // The byte of the greater of two temperatures. They are compared as temperatures and not as bytes,
@@ -32,7 +24,5 @@ pub fn to_byte(t: i8) -> u8
 pub fn greater_byte(a: i8, b: i8) -> u8
     ensures { result ≡ byte_of (greater_of a b) }
 {
-    let first = to_byte(a);
-    let second = to_byte(b);
-    if a < b { second } else { first }
+    to_byte(a.max(b))
 }

@@ -76,8 +76,8 @@ fn line(rt: &impl Print, words: &[u8], text: &mut [u8], region: &mut [u8]) -> io
 }
 
 pub fn run(rt: &impl Print, input: &[u8]) -> io::Result<()> {
-    let mut text = input_rooms::text_room();
-    let mut region = input_rooms::region_room();
+    let mut text = [0u8; input_rooms::TEXT];
+    let mut region = [0u8; input_rooms::REGION];
     let mut at = 0;
     while at < input.len() {
         let next = byte_parts::line_at(input, at);
