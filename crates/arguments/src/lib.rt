@@ -91,9 +91,9 @@ pub fn word_of(rt: &impl Env, name: Option<Name>) -> Word {
 pub fn link_of(rt: &impl Env, name: Option<Name>) -> Option<Word> {
     let Name { argument, from } = name?;
     let variable = Line::new()
-        .text(b"CARDTOOL_LINK_")
+        .text("CARDTOOL_LINK_")
         .decimal(argument)
-        .text(b"_")
+        .text("_")
         .decimal(from);
     let mut link = Word::from([0; PATH_MAX]);
     let held = rt
@@ -107,12 +107,12 @@ pub fn link_of(rt: &impl Env, name: Option<Name>) -> Option<Word> {
 fn first(rt: &(impl System + Env)) -> Option<Command> {
     let word = word(rt, 1).unwrap_or_default();
     if word.is_empty() {
-        Misuse::new(b"a command is missing", b"").complain(rt);
+        Misuse::new("a command is missing", b"").complain(rt);
         return None;
     }
     let command = Command::of(&word);
     if command.is_none() {
-        Misuse::new(b"no such command: ", &word).complain(rt);
+        Misuse::new("no such command: ", &word).complain(rt);
     }
     command
 }
@@ -140,7 +140,7 @@ fn rest(rt: &(impl System + Env), command: Command) -> Option<Reading> {
                 sound &= is_sound(rt, reading.take(command, &word, argument));
             }
             Err(FillError::TooLong) => {
-                Misuse::new(b"an argument is too long: ", &word).complain(rt);
+                Misuse::new("an argument is too long: ", &word).complain(rt);
                 sound = false;
             }
             Err(FillError::NotPresent) => break,

@@ -8,7 +8,7 @@ use std::cmp::Ordering;
 // What is wrong with the usage, and at which word.
 #[derive(Clone, Copy)]
 pub struct Misuse<'a> {
-    why: &'static [u8],
+    why: &'static str,
     word: &'a [u8],
 }
 
@@ -26,14 +26,14 @@ pub struct Reading {
 }
 
 impl<'a> Misuse<'a> {
-    pub fn new(why: &'static [u8], word: &'a [u8]) -> Misuse<'a> {
+    pub fn new(why: &'static str, word: &'a [u8]) -> Misuse<'a> {
         Misuse { why, word }
     }
 
     // Says what is wrong.
     pub fn complain(self, rt: &impl System) {
         Line::new()
-            .text(b"cardtool: ")
+            .text("cardtool: ")
             .text(self.why)
             .name(front(self.word, 80))
             .complain(rt);
@@ -81,7 +81,7 @@ impl Reading {
         let name = front(word, equals.unwrap_or(word.len()));
         let flag = Flag::of(name)
             .filter(|&flag| command.takes(flag))
-            .ok_or(Misuse::new(b"the command has no option ", name))?;
+            .ok_or(Misuse::new("the command has no option ", name))?;
         if let Some(at) = equals {
             let value = Name {
                 argument,
@@ -120,7 +120,7 @@ impl Reading {
             Flag::Size => self.options.size = size(part)?,
             Flag::Expect => self.options.expect = Some(checksum(part)?),
             Flag::Force | Flag::Help | Flag::End => {
-                return Err(Misuse::new(b"the option has no value: ", word));
+                return Err(Misuse::new("the option has no value: ", word));
             }
         }
         Ok(())
@@ -139,25 +139,25 @@ impl Reading {
     // Judges the arguments when all are taken.
     pub fn judge(&self, command: Command) -> Result<(), Misuse<'static>> {
         if self.wanting.is_some() {
-            return Err(Misuse::new(b"the last option wants a value", b""));
+            return Err(Misuse::new("the last option wants a value", b""));
         }
         match self.files.cmp(&command.wanted()) {
-            Ordering::Less => Err(Misuse::new(b"the command wants another file", b"")),
+            Ordering::Less => Err(Misuse::new("the command wants another file", b"")),
             Ordering::Equal => Ok(()),
-            Ordering::Greater => Err(Misuse::new(b"the command wants fewer files", b"")),
+            Ordering::Greater => Err(Misuse::new("the command wants fewer files", b"")),
         }
     }
 }
 
 // The entry address that a word gives.
 fn entry(word: &[u8]) -> Result<u32, Misuse<'_>> {
-    numbers::hex(word).ok_or(Misuse::new(b"--entry wants an address in hex digits, not ", word))
+    numbers::hex(word).ok_or(Misuse::new("--entry wants an address in hex digits, not ", word))
 }
 
 // The size that a word gives.
 fn size(word: &[u8]) -> Result<usize, Misuse<'_>> {
     let size = numbers::decimal(word).ok_or(Misuse::new(
-        b"--size wants a number of bytes in decimal, not ",
+        "--size wants a number of bytes in decimal, not ",
         word,
     ))?;
     Ok(size as usize)
@@ -166,11 +166,11 @@ fn size(word: &[u8]) -> Result<usize, Misuse<'_>> {
 // The expected checksum that a word gives.
 fn checksum(word: &[u8]) -> Result<u16, Misuse<'_>> {
     let sum = numbers::hex(word).ok_or(Misuse::new(
-        b"--expect wants a checksum in hex digits, not ",
+        "--expect wants a checksum in hex digits, not ",
         word,
     ))?;
     u16::try_from(sum).map_err(|_| Misuse::new(
-        b"--expect wants a checksum of at most ffff, not ",
+        "--expect wants a checksum of at most ffff, not ",
         word,
     ))
 }

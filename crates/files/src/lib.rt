@@ -56,7 +56,7 @@ fn complain(rt: &impl System, name: &[u8], why: &impl Display) {
     } else {
         rt.complain(&printable(name));
     }
-    Line::new().text(b": ").reason(why).complain(rt);
+    Line::new().text(": ").reason(why).complain(rt);
 }
 
 // Whether a file is written. Where it is not, that is said, by a name of it.

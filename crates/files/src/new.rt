@@ -64,9 +64,9 @@ fn resolved(rt: &(impl Files + Alloc), path: &[u8]) -> io::Result<Option<Word>> 
 // The name of a new file in the folder of a path: it holds the number of this process, and room for random letters.
 fn name_beside(rt: &impl System, path: &[u8]) -> Option<Word> {
     let line = Line::new()
-        .text(b"cardtool.new.")
+        .text("cardtool.new.")
         .decimal(rt.process_number() as usize)
-        .text(b".")
+        .text(".")
         .repeat(b'X', RANDOM);
     joined(folder(path), line.words())
 }

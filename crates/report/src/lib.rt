@@ -16,7 +16,7 @@ const ROOM: usize = 256;
 
 #[derive(Drop)]
 pub struct Line {
-    bytes: ArrayVec<u8, ROOM>,
+    held: ArrayVec<u8, ROOM>,
 }
 
 // What the tool asks of the system beside what std's traits name.
@@ -49,13 +49,15 @@ impl fmt::Write for Line {
 impl Line {
     // An empty line.
     pub fn new() -> Line {
-        Line { bytes: ArrayVec::new() }
+        Line {
+            held: ArrayVec::new(),
+        }
     }
 
-    // Puts words behind what the line has.
-    fn put(&mut self, words: &[u8]) {
-        let fitting = words.len().min(self.bytes.remaining_capacity());
-        let _ = self.bytes.try_extend_from_slice(&words[..fitting]);
+    // Puts bytes behind what the line has.
+    fn put(&mut self, bytes: &[u8]) {
+        let fitting = bytes.len().min(self.held.remaining_capacity());
+        let _ = self.held.try_extend_from_slice(&bytes[..fitting]);
     }
 
     // The line with a value behind it, as it is shown.
@@ -64,15 +66,20 @@ impl Line {
         self
     }
 
+    // The line with bytes behind it.
+    fn bytes(mut self, bytes: &[u8]) -> Line {
+        self.put(bytes);
+        self
+    }
+
     // The line with one byte more.
     pub fn byte(self, b: u8) -> Line {
-        self.text(&[b])
+        self.bytes(&[b])
     }
 
     // The line with words behind it.
-    pub fn text(mut self, words: &[u8]) -> Line {
-        self.put(words);
-        self
+    pub fn text(self, words: &str) -> Line {
+        self.bytes(words.as_bytes())
     }
 
     // The line with a name behind it that came from outside, without its control characters.
@@ -95,7 +102,7 @@ impl Line {
 
     // The line with spaces behind it, up to a column.
     pub fn to(self, column: usize) -> Line {
-        let missing = column.saturating_sub(self.bytes.len());
+        let missing = column.saturating_sub(self.held.len());
         self.repeat(b' ', missing)
     }
 
@@ -111,14 +118,14 @@ impl Line {
 
     // The line with a number behind it whose last digit stands before a column.
     pub fn right(self, n: usize, column: usize) -> Line {
-        let width = column.saturating_sub(self.bytes.len());
+        let width = column.saturating_sub(self.held.len());
         self.shown(format_args!("{n:width$}"))
     }
 
     // The line with a number of things behind it: `1 packet`, `2 packets`.
-    pub fn count(self, n: usize, thing: &[u8]) -> Line {
-        let line = self.decimal(n).text(b" ").text(thing);
-        if n == 1 { line } else { line.text(b"s") }
+    pub fn count(self, n: usize, thing: &str) -> Line {
+        let line = self.decimal(n).text(" ").text(thing);
+        if n == 1 { line } else { line.text("s") }
     }
 
     // The line with 0x and a number behind it in hexadecimal digits.
@@ -126,21 +133,25 @@ impl Line {
         self.shown(format_args!("{n:#x}"))
     }
 
-    // The line with a number behind it in at least so many hexadecimal digits, at most 16.
-    pub fn code(self, n: usize, least: usize) -> Line {
-        let width = least.min(16);
-        self.shown(format_args!("{n:0width$x}"))
+    // The line with a byte behind it in two hexadecimal digits.
+    pub fn code(self, byte: u8) -> Line {
+        self.shown(format_args!("{byte:02x}"))
+    }
+
+    // The line with a checksum behind it.
+    pub fn checksum(self, sum: u16) -> Line {
+        self.shown(format_args!("{sum:#06x}"))
     }
 
     // The line with the reason of a failed call behind it, in the system's words without its number.
     pub fn reason(self, why: &impl Display) -> Line {
         let whole = Line::new().shown(why);
-        self.text(before_number(whole.words()))
+        self.bytes(before_number(whole.words()))
     }
 
     // What the line holds.
     pub fn words(&self) -> &[u8] {
-        self.bytes.as_slice()
+        self.held.as_slice()
     }
 
     // Prints the line to standard output.
