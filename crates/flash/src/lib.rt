@@ -1,5 +1,5 @@
 // What the loader's commands do to a flash region and ask of it: a write, which only clears bits, the
-// checksum of a range, and whether the firmware may start. An erase is `region::fill` with 0xFF. None
+// checksum of a range, and whether the firmware may start. An erase fills it with 0xFF. None
 // of these functions asks anything of its input.
 #![tactic(auto)]
 
