@@ -1,8 +1,9 @@
 -- What requests are answered in application mode (document 01, "Application mode").
 -- Assumes nothing.
-use Rattle.std.specs.Prelude.{cond, not, ◌&&◌, ◌||◌, List, [], ◌∷◌, ℕ, eqb, length}
+use Rattle.std.specs.Prelude.{cond, not, ◌&&◌, ◌||◌, Result, Ok, Err, List, [], ◌∷◌, ℕ, eqb, length}
 use Rattle.little_endian.specs.Bytes.{little_endian, stored_at}
 use Rattle.refusal.specs.Refusal.{number_of}
+use Rattle.refusal.specs.declared.Refusal.{Refusal}
 use Rattle.sensor_values.specs.Layout.{bytes_of}
 use Rattle.sensor_values.specs.Rule.{sound}
 use Rattle.sensor_values.specs.declared.SensorRecord.{SensorRecord}
@@ -12,7 +13,7 @@ use Rattle.application.specs.declared.Request.{Request}
 use Rattle.application.specs.declared.Request.TheVariants.{BoardTemperature, Power, FirmwareVersion, FpgaTemperature, Reset, Sensors}
 use Rattle.application.specs.declared.Request.TheVariants.{Status, EnterLoader, OtherCard, Unknown}
 use Rattle.application.specs.declared.Response.{Response}
-use Rattle.application.specs.declared.Response.TheVariants.{Refused, Replied, Locks}
+use Rattle.application.specs.declared.Response.TheVariants.{Replied, Locks}
 use Rattle.application.specs.declared.Version.{Version}
 
 -- an answer of document 01: a refusal's number; a reply's bytes; or no bytes, and the mode becomes locked
@@ -28,10 +29,10 @@ pub data Told : Type 0 where
   locked : Told
 
 -- what was told, in these terms
-abbrev pub told : Response → Told
-told (Refused why) = refusal (number_of why)
-told (Replied n) = count n
-told Locks = locked
+abbrev pub told : Result Response Refusal → Told
+told (Err why) = refusal (number_of why)
+told (Ok (Replied n)) = count n
+told (Ok Locks) = locked
 
 -- what is told, and the reply buffer then
 pub record Left : Type 0 where

@@ -1,8 +1,6 @@
 // The commands and the options, by their names, and which command takes what.
-use byte_parts::line_of;
-use region::same;
 
-#[derive(Clone, Copy)]
+#[derive(Clone, Copy, PartialEq, Eq)]
 pub enum Command {
     Plan,
     Check,
@@ -14,12 +12,11 @@ pub enum Command {
     Record,
     Help,
     Version,
-    // No command: the usage was wrong.
-    Wrong,
 }
 
-#[derive(Clone, Copy)]
-pub enum Option {
+// An option by its name, without its value.
+#[derive(Clone, Copy, PartialEq, Eq)]
+pub enum Flag {
     Password,
     Entry,
     Size,
@@ -29,124 +26,70 @@ pub enum Option {
     Help,
     // What follows are files.
     End,
-    Unknown,
 }
 
-// The number of the line that a word is in a list, from 0 on; the length of the list, more than it has lines, where it
-// is none.
-fn number_in(list: &[u8], word: &[u8]) -> usize {
-    for i in 0..list.len() {
-        if same(line_of(list, i), word) {
-            return i;
+impl Command {
+    // The command that a word names.
+    pub fn of(word: &[u8]) -> Option<Command> {
+        match word {
+            b"plan" => Some(Command::Plan),
+            b"check" => Some(Command::Check),
+            b"cuts" => Some(Command::Cuts),
+            b"show" => Some(Command::Show),
+            b"image" => Some(Command::Image),
+            b"sums" => Some(Command::Sums),
+            b"picture" => Some(Command::Picture),
+            b"record" => Some(Command::Record),
+            b"--version" => Some(Command::Version),
+            b"--help" | b"-h" => Some(Command::Help),
+            _ => None,
         }
     }
-    list.len()
-}
 
-pub fn command_of(word: &[u8]) -> Command {
-    let number = number_in(
-        b"plan
-check
-cuts
-show
-image
-sums
-picture
-record
---version
---help
--h
-",
-        word,
-    );
-    match number {
-        0 => Command::Plan,
-        1 => Command::Check,
-        2 => Command::Cuts,
-        3 => Command::Show,
-        4 => Command::Image,
-        5 => Command::Sums,
-        6 => Command::Picture,
-        7 => Command::Record,
-        8 => Command::Version,
-        9 | 10 => Command::Help,
-        _ => Command::Wrong,
+    // Whether the command takes an option.
+    pub fn takes(self, flag: Flag) -> bool {
+        match flag {
+            Flag::Help | Flag::End => true,
+            Flag::Password => matches!(self, Command::Plan | Command::Check | Command::Cuts),
+            Flag::Entry => self == Command::Plan,
+            Flag::Size => !matches!(
+                self,
+                Command::Show | Command::Record | Command::Help | Command::Version
+            ),
+            Flag::Expect => matches!(self, Command::Check | Command::Cuts),
+            Flag::Region => self == Command::Cuts,
+            Flag::Force => matches!(self, Command::Plan | Command::Picture),
+        }
+    }
+
+    // How many files the command wants.
+    pub fn wanted(self) -> usize {
+        match self {
+            Command::Plan | Command::Check | Command::Cuts | Command::Picture => 2,
+            Command::Show | Command::Image | Command::Sums | Command::Record => 1,
+            Command::Help | Command::Version => 0,
+        }
+    }
+
+    // Whether nothing after the command matters.
+    pub fn is_alone(self) -> bool {
+        matches!(self, Command::Help | Command::Version)
     }
 }
 
-pub fn option_of(word: &[u8]) -> Option {
-    let number = number_in(
-        b"--password
---entry
---size
---expect
---region
---force
---
---help
--h
-",
-        word,
-    );
-    match number {
-        0 => Option::Password,
-        1 => Option::Entry,
-        2 => Option::Size,
-        3 => Option::Expect,
-        4 => Option::Region,
-        5 => Option::Force,
-        6 => Option::End,
-        7 | 8 => Option::Help,
-        _ => Option::Unknown,
-    }
-}
-
-// Whether a command takes an option.
-pub fn takes(command: Command, option: Option) -> bool {
-    match option {
-        Option::Help | Option::End => true,
-        Option::Unknown => false,
-        Option::Password => match command {
-            Command::Plan | Command::Check | Command::Cuts => true,
-            _ => false,
-        },
-        Option::Entry => match command {
-            Command::Plan => true,
-            _ => false,
-        },
-        Option::Size => match command {
-            Command::Plan | Command::Check | Command::Cuts => true,
-            Command::Image | Command::Sums | Command::Picture => true,
-            _ => false,
-        },
-        Option::Expect => match command {
-            Command::Check | Command::Cuts => true,
-            _ => false,
-        },
-        Option::Region => match command {
-            Command::Cuts => true,
-            _ => false,
-        },
-        Option::Force => match command {
-            Command::Plan | Command::Picture => true,
-            _ => false,
-        },
-    }
-}
-
-// How many files a command wants.
-pub fn wanted(command: Command) -> usize {
-    match command {
-        Command::Plan | Command::Check | Command::Cuts | Command::Picture => 2,
-        Command::Show | Command::Image | Command::Sums | Command::Record => 1,
-        _ => 0,
-    }
-}
-
-// Whether nothing after a command matters.
-pub fn is_alone(command: Command) -> bool {
-    match command {
-        Command::Help | Command::Version | Command::Wrong => true,
-        _ => false,
+impl Flag {
+    // The option that a word names.
+    pub fn of(word: &[u8]) -> Option<Flag> {
+        match word {
+            b"--password" => Some(Flag::Password),
+            b"--entry" => Some(Flag::Entry),
+            b"--size" => Some(Flag::Size),
+            b"--expect" => Some(Flag::Expect),
+            b"--region" => Some(Flag::Region),
+            b"--force" => Some(Flag::Force),
+            b"--" => Some(Flag::End),
+            b"--help" | b"-h" => Some(Flag::Help),
+            _ => None,
+        }
     }
 }

@@ -1,12 +1,11 @@
 -- A power cut and a restart of a card (document 02, T-07).
 -- Assumes nothing.
-use Rattle.std.specs.Prelude.{cond, not, List, ℕ, eqb, ltb, length}
+use Rattle.std.specs.Prelude.{cond, not, Result, Ok, Err, List, ℕ, eqb, ltb, length}
 use Rattle.power_cut.specs.Cut.{work_of, left_of, restarted_of}
 use Rattle.refusal.specs.Refusal.{number_of}
+use Rattle.refusal.specs.declared.Refusal.{Refusal}
 use Rattle.card.specs.Call.{with_loader, bad_region}
 use Rattle.card.specs.declared.Card.{Card}
-use Rattle.card.specs.declared.Ended.{Ended}
-use Rattle.card.specs.declared.Ended.TheVariants.{Refused, Done}
 
 -- an answer in the papers' terms: a refusal's number, or none
 pub data Ending : Type 0 where
@@ -14,9 +13,9 @@ pub data Ending : Type 0 where
   done : Ending
 
 -- what was answered, in these terms
-abbrev pub ending_of : Ended → Ending
-ending_of (Refused why) = refused (number_of why)
-ending_of Done = done
+abbrev pub ending_of : Result Unit Refusal → Ending
+ending_of (Err why) = refused (number_of why)
+ending_of (Ok none) = done
 
 -- what a cut answers, and the region then; the state stays until the restart
 pub record Cut : Type 0 where

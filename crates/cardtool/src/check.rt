@@ -3,7 +3,8 @@
 use arguments::{Command, Options};
 use byte_parts::{front, front_mut};
 use checker::Answer;
-use files::{PASSWORD_ROOM, Reading};
+use files::PASSWORD_ROOM;
+use refusal::Refused;
 use report::System;
 use std::io;
 use std::rt::{Env, Files};
@@ -33,71 +34,39 @@ fn judge(
         unknown: checked.unknown,
         expected,
     };
-    let answer = checked.answer;
-    match answer {
+    match checked.answer {
         Answer::Refused { refusal, place } => {
-            tool_verdict::refused(rt, script, text, password, refusal, place, behind, region)
+            let refused = Refused { refusal, place };
+            tool_verdict::refused(rt, script, text, password, refused, behind, region)
         }
-        Answer::Passed => match command {
-            Command::Cuts => {
-                tool_cuts::say(rt, options, script, texts, length, password, behind, room)
-            }
-            _ => tool_verdict::passed(rt, script, text, behind),
-        },
+        Answer::Passed if command == Command::Cuts => {
+            tool_cuts::say(rt, options, script, texts, length, password, behind, room)
+        }
+        Answer::Passed => tool_verdict::passed(rt, script, text, behind),
     }
-}
-
-// Checks a script with the password that the options name.
-fn with_password(
-    rt: &(impl System + Env + Files),
-    command: Command,
-    options: Options,
-    script: &[u8],
-    text: &mut [u8],
-    length: usize,
-    region: &mut [u8],
-    known: &mut [u8],
-) -> io::Result<()> {
-    let mut room = [0u8; PASSWORD_ROOM];
-    let Reading::Held(n) = files::read_password(rt, options.password, &mut room) else {
-        return Ok(());
-    };
-    judge(
-        rt,
-        command,
-        options,
-        script,
-        text,
-        length,
-        front(&room, n),
-        region,
-        known,
-    )
 }
 
 pub fn run(
     rt: &(impl System + Env + Files),
     command: Command,
     options: Options,
-    text: &mut [u8],
-    script: &mut [u8],
+    texts: &mut [u8],
+    scripts: &mut [u8],
     region: &mut [u8],
     known: &mut [u8],
 ) -> io::Result<()> {
-    let Reading::Held(n) = files::read(rt, options.first, script) else {
+    let Some(script) = files::read(rt, options.first, scripts) else {
         return Ok(());
     };
-    let Reading::Held(m) = files::read(rt, options.second, text) else {
+    let Some(text) = files::read(rt, options.second, texts) else {
         return Ok(());
     };
-    with_password(
-        rt,
-        command,
-        options,
-        front(script, n),
-        text,
-        m,
-        region,
-        known,
+    let length = text.len();
+    let mut room = [0u8; PASSWORD_ROOM];
+    let Some(password) = files::read_password(rt, options.password, &mut room) else {
+        return Ok(());
+    };
+    judge(
+        rt, command, options, script, texts, length, password, region, known,
     )
 }

@@ -7,7 +7,7 @@
 
 mod check;
 
-use arguments::Command;
+use arguments::{Command, Request};
 use report::System;
 use std::io;
 use std::process::ExitCode;
@@ -20,9 +20,10 @@ const UNHEARD: u8 = 141;
 
 // Does what the arguments ask for.
 fn run(rt: &(impl System + Env + Files + RandomSource + Alloc)) -> io::Result<()> {
-    let request = arguments::read(rt);
-    let command = request.command;
-    let options = request.options;
+    let Some(Request { command, options }) = arguments::read(rt) else {
+        usage::complain(rt);
+        return Ok(());
+    };
     let mut text = [0u8; input_rooms::TEXT];
     let mut script = [0u8; input_rooms::SCRIPT];
     let mut region = [0u8; input_rooms::REGION];
@@ -46,7 +47,8 @@ fn run(rt: &(impl System + Env + Files + RandomSource + Alloc)) -> io::Result<()
         }
         Command::Picture => tool_output::picture::run(rt, options, &mut text, &mut region),
         Command::Record => tool_record::run(rt, options),
-        _ => usage::answer(rt, command),
+        Command::Help => usage::print(rt),
+        Command::Version => usage::print_version(rt),
     }
 }
 

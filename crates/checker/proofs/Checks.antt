@@ -3,8 +3,8 @@
 use mathlib.Core.Path.{◌≡◌, refl, sym, ap, ◌∙◌, subst}
 use mathlib.Core.Bool.{Bool, true, false, cond, not, ◌&&◌}
 use mathlib.Core.List.{List}
-use Prim.Native.Nat.{ℕ, ◌*◌, ◌/◌, ◌≤◌, ◌<◌}
-use borrow.Author.Tests.{eqb-true, eq-eqb, ne_eqb, ltb-false, lt-ltb, le-ltb, not-false}
+use Prim.Native.Nat.{ℕ, ◌*◌, ◌/◌, ◌≤◌}
+use borrow.Author.Tests.{eqb-true, ltb-false, not-false}
 use lib.Dec.{eqb, ltb}
 use lib.ListN.{length}
 use Rattle.delivery.specs.Check.{Said, passed, refused, run_of, if_sound, judged_of}
@@ -37,51 +37,6 @@ pub record Fine (script password : List ℕ) (n region known : ℕ) : Type 0 whe
   pub sized : Sized n region known
   pub wide : length password ≡ 256
   pub short : length script ≤ longest_script
-
-module _ (script text password : List ℕ) (n region known : ℕ) where
-  pub size-bad : good_size n ≡ false → judged_one script text password n region known ≡ refused 1 0
-  unfolding judged_one judged_of
-  size-bad bad = on-cond (λ (s : Said). s ≡ refused 1 0) (eqb known (n / 8)) _ _ (λ _. rw bad refl) (λ _. refl)
-
-  pub region-bad : good_size n ≡ true → (region ≡ n → ⊥) → judged_one script text password n region known ≡ refused 1 0
-  unfolding judged_one judged_of
-  region-bad good other =
-      on-cond (λ (s : Said). s ≡ refused 1 0) (eqb known (n / 8)) _ _ (λ _. rw (good, ne_eqb region n other) refl) (λ _. refl)
-
-  pub known-bad : (known ≡ n / 8 → ⊥) → judged_one script text password n region known ≡ refused 1 0
-  unfolding judged_one
-  known-bad other = rw (ne_eqb known (n / 8) other) refl
-
-  module _ (s : Sized n region known) where
-    pub password-bad : (length password ≡ 256 → ⊥) → judged_one script text password n region known ≡ refused 2 0
-    unfolding judged_one judged_of
-    password-bad other =
-        rw (eq-eqb known (n / 8) s.known_sized, s.good, eq-eqb region n s.region_sized, ne_eqb (length password) 256 other) refl
-
-    pub script-long : length password ≡ 256 → longest_script < length script → judged_one script text password n region known ≡ refused 18 0
-    unfolding judged_one judged_of
-    script-long wide long =
-        rw (
-          eq-eqb known (n / 8) s.known_sized,
-          s.good,
-          eq-eqb region n s.region_sized,
-          eq-eqb (length password) 256 wide,
-          lt-ltb longest_script (length script) long,
-        ) refl
-
-  -- then the text decides, and the head
-  pub by-text : Fine script password n region known
-      → judged_one script text password n region known ≡ if_sound (rules_of text n) (cond (headed script) passed (refused 6 0))
-  unfolding judged_one judged_of
-  by-text f =
-      let s = f.sized in
-      rw (
-        eq-eqb known (n / 8) s.known_sized,
-        s.good,
-        eq-eqb region n s.region_sized,
-        eq-eqb (length password) 256 f.wide,
-        le-ltb longest_script (length script) f.short,
-      ) refl
 
 -- what is known where nothing was refused before the packets
 pub record Judged (script text password : List ℕ) (n region known : ℕ) : Type 0 where

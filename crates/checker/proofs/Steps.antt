@@ -3,10 +3,10 @@
 use mathlib.Core.Path.{◌≡◌, refl, sym, ap, ap₂, ◌∙◌, subst}
 use mathlib.Core.Bool.{Bool, true, false, not, ◌&&◌}
 use mathlib.Core.List.{List}
-use Prim.Native.Nat.{ℕ, ◌-◌}
+use Prim.Native.Nat.{ℕ}
 use borrow.Author.Tests.{eqb-true, eqb-false}
 use lib.Dec.{eqb}
-use lib.ListN.{length, drop, length-drop}
+use lib.ListN.{length}
 use Rattle.delivery.specs.Beside.{Learns}
 use Rattle.delivery.specs.Check.{Said, Trial, trial, step, step_of, behind, begins_start, starts_too_early, found}
 use Rattle.delivery.specs.Check as check
@@ -15,13 +15,13 @@ use Rattle.delivery.proofs.Exact.{both-next}
 use Rattle.delivery.proofs.Learns.{received-knows}
 use Rattle.delivery.proofs.Runs.{step-done}
 use Rattle.firmware_text.specs.Machine.{image_of}
-use Rattle.known_bits.specs.Known.{unknown_of, WithRange, differ, Knows}
+use Rattle.known_bits.specs.Known.{unknown_of, differ, Knows}
 use Rattle.known_bits.proofs.Laws.{differ-zero, differ_same, unknown-differ, knows-known}
 use Rattle.little_endian.specs.Bytes.{Bytes}
 use Rattle.loader.specs.Loader.{Outcome, received_of, succeeded_of}
 use Rattle.loader.specs.declared.Loader.{Loader}
 use Rattle.loader.proofs.Laws.{receive-keeps}
-use Rattle.packet.specs.Packet.{core_of, command_of, address_of}
+use Rattle.packet.specs.Packet.{core_of, command_of}
 use Rattle.packet.specs.declared.Command.{Command}
 use Rattle.packet.specs.declared.Command.TheVariants.{Write}
 use Rattle.packet.proofs.Commands.{Row, RowOf, command-row}
@@ -31,7 +31,8 @@ use Rattle.text_image.specs.Picture.{picture_of}
 use Rattle.text_image.specs.Rules.{rules_of, sound}
 use Rattle.ti_txt.specs.Answers.{is_picture_of}
 use Rattle.checker.specs.Answers.{fault_of, next_of, Tells, Follows}
-use Rattle.checker.specs.declared.Step as answers
+use Rattle.std.specs.Prelude.{Result}
+use Rattle.refusal.specs.declared.Refusal.{Refusal}
 
 -- what two runs came to, told in one region
 pub single-told : (s : Said) (n unknown : ℕ) (zeros ones : Trial) (known : List ℕ) → Bytes known → Tells zeros ones known
@@ -45,22 +46,9 @@ single-told s n unknown zeros ones known bytes t e =
 
 -- ---- what a packet makes known
 
--- by the command that was found
-pub learn-by : (is : Command) (core packet old new : List ℕ) → core ≡ core_of packet → is ≡ command_of core → Learns is core old new
-    → Learns (command_of (core_of packet)) (core_of packet) old new
-learn-by is core packet old new ec e l =
-    subst (λ (l : List ℕ). Learns (command_of l) l old new) ec (subst (λ (k : Command). Learns k core old new) e l)
-
 -- a core that is a write's
 pub write-row : (core : List ℕ) → Write ≡ command_of core → Row core 0x20 6 261
 write-row core e = subst (λ (k : Command). RowOf k core) (sym e) (command-row core)
-
--- the range of a write
-pub learn-write : (core old new : List ℕ) (from : ℕ) → from ≡ address_of core → WithRange from (length core - 5) old new
-    → Learns Write core old new
-learn-write core old new from e w =
-    subst (λ (a : ℕ). WithRange a (length (drop 5 core)) old new) e
-    (subst (λ (n : ℕ). WithRange from n old new) (sym (length-drop 5 core)) w)
 
 -- ---- one packet
 
@@ -158,7 +146,7 @@ module _ (password text packet : List ℕ) (loader : Loader) (region known : Lis
         })
 
 -- the same, said of the same packet and size in other words, by what became of it
-pub follow-as : (r r' : answers.Step) (password text packet packet' : List ℕ) (n n' : ℕ) (zeros ones : Trial) (loader : Loader)
+pub follow-as : (r r' : Result Loader Refusal) (password text packet packet' : List ℕ) (n n' : ℕ) (zeros ones : Trial) (loader : Loader)
     (region known : List ℕ)
     → r ≡ r' → n ≡ n' → packet ≡ packet'
     → Follows (step_of password (picture_of n (image_of text)) packet zeros ones) (fault_of r) (trial (next_of r loader) region) known

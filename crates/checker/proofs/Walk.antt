@@ -6,6 +6,7 @@ use mathlib.Core.List.{List, ◌∷◌}
 use Prim.Native.Nat.{ℕ, ◌+◌, ◌-◌, ◌*◌, ◌≤◌, ◌<◌}
 use native.Mathlib.Omega.{arith}
 use borrow.Author.Tests.{ltb-true, ltb-false}
+use Rattle.std.specs.Prelude.{Some, None}
 use lib.Dec.{eqb, ltb}
 use lib.ListN.{length, take, drop, replicate, length-drop, length-replicate}
 use lib.Seq.{drop-drop, length-take-le}
@@ -42,7 +43,7 @@ module _ (password picture : List ℕ) (zeros ones : Trial) (at n : ℕ) (bytes 
           ∙ run-started password picture zeros ones at n _ _ _ started bytes (some_left bytes (λ z. omega (arith, z)))
 
   -- the script ends, or ends inside a packet
-  run-cut : is_application zeros.loader.mode ≡ false → front_of bytes ≡ 0
+  run-cut : is_application zeros.loader.mode ≡ false → front_of bytes ≡ None
       → run_at (step_of password picture) zeros ones at n (frames_of bytes) ≡ found (end_of false bytes at) n zeros ones
   run-cut inloader none = run-unpacked (front_cut bytes none) ∙ ap (λ (t : Bool). found (end_of t bytes at) n zeros ones) inloader
 
@@ -81,11 +82,10 @@ pub record Ahead (script : List ℕ) (at k : ℕ) (started : Bool) : Type 0 wher
   pub fits : at + k ≤ length script
 
 pub ahead : (script : List ℕ) (at k : ℕ) (started : Bool) → at ≤ length script
-    → k ≡ cond started 0 (front_of (take (length script - at) (drop at script))) → (k ≡ 0 → ⊥)
-    → Ahead script at k started
-ahead script at k true inside e some = absurd (some e)
-ahead script at k false inside e some =
-    let w = front-inside script at k inside e some in
+    → cond started None (front_of (take (length script - at) (drop at script))) ≡ Some k → Ahead script at k started
+ahead script at k true inside e = absurd cc
+ahead script at k false inside e =
+    let w = front-inside script at k inside e in
     record { not-started = refl; is = w.0; fits = w.1 }
 
 -- a walk in one region that has come to a place: beside it stands a run over 0xFF, of which the bits tell, and what is left to run in
@@ -120,7 +120,7 @@ module _ (whole : Checked) (password picture script : List ℕ) (zeros : Trial) 
       ∙ sym (run-over password picture zeros s.ones at n (drop at script) started) ∙ s.left
 
   -- the script ends, or ends inside a packet
-  stand-cut : is_application zeros.loader.mode ≡ false → front_of rest ≡ 0 → (a : Said) → a ≡ end_of false rest at
+  stand-cut : is_application zeros.loader.mode ≡ false → front_of rest ≡ None → (a : Said) → a ≡ end_of false rest at
       → found a n zeros s.ones ≡ whole
   stand-cut inloader none a e =
       ap (λ (x : Said). found x n zeros s.ones) (e ∙ ap (λ (l : List ℕ). end_of false l at) (part-tail script at))
@@ -128,10 +128,10 @@ module _ (whole : Checked) (password picture script : List ℕ) (zeros : Trial) 
       ∙ s.left
 
   -- no packet is run any more
-  pub stand-end : (started : Bool) → started ≡ is_application zeros.loader.mode → (k : ℕ) → k ≡ cond started 0 (front_of rest) → k ≡ 0
+  pub stand-end : (started : Bool) → started ≡ is_application zeros.loader.mode → cond started None (front_of rest) ≡ None
       → (a : Said) → a ≡ end_of started rest at → found a n zeros s.ones ≡ whole
-  stand-end true is k front none a e = stand-over (sym is) a e
-  stand-end false is k front none a e = stand-cut (sym is) (sym front ∙ none) a e
+  stand-end true is none a e = stand-over (sym is) a e
+  stand-end false is none a e = stand-cut (sym is) none a e
 
   module _ (k : ℕ) (started : Bool) (is : started ≡ is_application zeros.loader.mode) (w : Ahead script at k started) where
     -- the packet in both runs

@@ -1,6 +1,6 @@
 -- What the checker answers, in document 01's terms ("Scripts, planner, checker", "Refusal numbers") and T-09's.
 -- Assumes nothing.
-use Rattle.std.specs.Prelude.{List, ◌≡◌, ℕ, ◌≤◌, length}
+use Rattle.std.specs.Prelude.{List, ◌≡◌, ℕ, ◌≤◌, length, Result, Ok, Err}
 use Rattle.delivery.specs.Beside.{Beside}
 use Rattle.delivery.specs.Check.{Said, passed, refused, Trial}
 use Rattle.delivery.specs.Check as check
@@ -8,30 +8,28 @@ use Rattle.delivery.specs.OneRegion.{One, one}
 use Rattle.known_bits.specs.Known.{longest_map, Knows}
 use Rattle.loader.specs.declared.Loader.{Loader}
 use Rattle.refusal.specs.Refusal.{number_of}
-use Rattle.checker.specs.declared.Answer.{Answer}
-use Rattle.checker.specs.declared.Answer.TheVariants.{Passed, Refused}
+use Rattle.refusal.specs.declared.Refusal.{Refusal}
+use Rattle.refusal.specs.declared.Refused.{Refused}
 use Rattle.checker.specs.declared.Checked.{Checked}
-use Rattle.checker.specs.declared.Step.{Step}
-use Rattle.checker.specs.declared.Step.TheVariants as steps
 
 -- what was said, in these terms
-abbrev pub said : Answer → Said
-said Passed = passed
-said (Refused why place) = refused (number_of why) place
+abbrev pub said : Result (Unit {0}) Refused → Said
+said (Ok none) = passed
+said (Err why) = refused (number_of why.refusal) why.place
 
 -- what was answered, and the region and its known bits then
 abbrev pub answered : Checked → List ℕ → List ℕ → One
 answered r region known = one (said r.answer) r.packets r.unknown region known
 
 -- what became of a packet: the refusal that it got, 0 if none
-abbrev pub fault_of : Step → ℕ
-fault_of (steps.Refused why) = number_of why
-fault_of (steps.Ran next) = 0
+abbrev pub fault_of : Result Loader Refusal → ℕ
+fault_of (Err why) = number_of why
+fault_of (Ok next) = 0
 
 -- and the loader's state behind it
-abbrev pub next_of : Step → Loader → Loader
-next_of (steps.Refused why) loader = loader
-next_of (steps.Ran next) loader = next
+abbrev pub next_of : Result Loader Refusal → Loader → Loader
+next_of (Err why) loader = loader
+next_of (Ok next) loader = next
 
 -- a run in one region beside the two over 0x00 and over 0xFF: it is the run over 0x00, the other stands beside it, and the bits, no more
 -- than a region has, say where their buffers have the same byte

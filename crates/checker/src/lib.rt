@@ -6,7 +6,7 @@
 // what is answered, which is what the runs over 0x00 and over 0xFF give (T-09), and what a pass is worth.
 #![tactic(auto)]
 
-ghost use Rattle.std.specs.Prelude.{◌≡◌, cond, not, ◌&&◌, ◌*◌, ◌≤◌, eqb, length, replicate};
+ghost use Rattle.std.specs.Prelude.{◌≡◌, cond, not, ◌&&◌, ◌*◌, ◌≤◌, eqb, length, replicate, None};
 ghost use Rattle.firmware_text.specs.Machine.{image_of};
 ghost use Rattle.known_bits.specs.Known.{longest_map, unknown_of};
 ghost use Rattle.packet.specs.Packet.{core_of, command_of};
@@ -22,7 +22,7 @@ ghost use Rattle.checker.specs.Answers.{said, answered, fault_of, next_of, Tells
 
 use loader::{Loader, Mode};
 use packet::Command;
-use refusal::Refusal;
+use refusal::{Refusal, Refused};
 use text_image::Verdict;
 
 // The longest script that is checked.
@@ -31,34 +31,13 @@ const LONGEST: usize = 2097152;
 // The code that the core of a start begins with.
 const START: u8 = 0x27;
 
-// What is said of a script.
-#[derive(Clone, Copy)]
-pub enum Answer {
-    Passed,
-    Refused { refusal: Refusal, place: usize },
-}
-
 // What is said, the number of packets that succeeded, and that of the bytes still unknown at the end of
 // the run, which is 0 on pass and for a refusal before the run was begun.
 #[derive(Clone, Copy)]
 pub struct Checked {
-    pub answer: Answer,
+    pub answer: Result<(), Refused>,
     pub packets: usize,
     pub unknown: usize,
-}
-
-// What becomes of a packet: it is refused, or the loader goes on to its next state.
-#[derive(Clone, Copy)]
-enum Step {
-    Refused(Refusal),
-    Ran(Loader),
-}
-
-// A refusal at a place.
-fn refuse(refusal: Refusal, place: usize) -> Answer
-    ensures { result ≡ Answer.Refused refusal place }
-{
-    Answer::Refused { refusal, place }
 }
 
 // A locked loader that expects the checksum.
@@ -83,13 +62,7 @@ fn starts_too_early(packet: &[u8], text: &[u8], region: &[u8], known: &[u8]) -> 
     ensures { result ≡ (begins_start packet.now
         && not (is_picture_of text.now region.now && eqb (unknown_of known.now) 0)) }
 {
-    if !begins_start(packet) {
-        return false;
-    }
-    if !ti_txt::is_picture(text, region) {
-        return true;
-    }
-    known_bits::unknown(known) != 0
+    begins_start(packet) && !(ti_txt::is_picture(text, region) && known_bits::unknown(known) == 0)
 }
 
 // Sets the bits of what a packet that was a success has made known: all by an erase, its range by a write.
@@ -99,22 +72,14 @@ fn learn(packet: &[u8], known: &mut [u8])
 {
     let core = packet::core(packet);
     match packet::command_of(core) {
-        Command::Password => {}
-        Command::Erase => {
-            region::fill(known, 0xFF);
-        }
-        Command::Write => {
-            let from = packet::address(core);
-            known_bits::mark_range(known, from, core.len() - 5);
-        }
-        Command::RangeChecksum => {}
-        Command::Start => {}
-        Command::Unknown => {}
+        Command::Erase => known.fill(0xFF),
+        Command::Write => known_bits::mark_range(known, packet::address(core), core.len() - 5),
+        Command::Password | Command::RangeChecksum | Command::Start | Command::Unknown => {}
     }
 }
 
-// Runs one packet over the region, and learns from it if it is a success. Whatever run over 0xFF stands
-// beside the region, the packet goes as in the two of them.
+// Runs one packet over the region, and learns from it if it is a success: the loader goes on to its next
+// state. Whatever run over 0xFF stands beside the region, the packet goes as in the two of them.
 fn run_packet(
     packet: &[u8],
     text: &[u8],
@@ -122,7 +87,7 @@ fn run_packet(
     loader: Loader,
     region: &mut [u8],
     known: &mut [u8],
-) -> Step
+) -> Result<Loader, Refusal>
     requires { rules_of text.now (length region.old) ≡ sound }
     ensures { (ones : Trial) → Tells (trial loader region.old) ones known.old
         → Follows (step_of password.now (picture_of (length region.old) (image_of text.now))
@@ -130,54 +95,46 @@ fn run_packet(
         (fault_of result) (trial (next_of result loader) region.new) known.new }
 {
     if starts_too_early(packet, text, region, known) {
-        return Step::Refused(Refusal::PictureDiffers);
+        return Err(Refusal::PictureDiffers);
     }
     let ran = loader::receive(loader, region, password, packet);
-    let reply = ran.reply;
-    let next = ran.loader;
-    if !loader::succeeded(reply) {
-        return Step::Refused(Refusal::RefusedOverZeros);
+    if !loader::succeeded(ran.reply) {
+        return Err(Refusal::RefusedOverZeros);
     }
     learn(packet, known);
-    Step::Ran(next)
+    Ok(ran.loader)
 }
 
-// The length of the packet that is run next, 0 if none is: the firmware has started, or no whole one is left.
-fn packet_ahead(started: bool, rest: &[u8]) -> usize
-    ensures { result ≡ cond started 0 (front_of rest.now) }
+// The length of the packet that is run next: none if the firmware has started, or no whole one is left.
+fn packet_ahead(started: bool, rest: &[u8]) -> Option<usize>
+    ensures { result ≡ cond started None (front_of rest.now) }
 {
-    if started {
-        return 0;
-    }
-    script::front(rest)
+    if started { None } else { script::front(rest) }
 }
 
 // What is said at a place where no packet is run any more.
-fn ended(started: bool, rest: &[u8], at: usize) -> Answer
+#[tactic(auto, using(delivery::proofs::Runs::none_left, delivery::proofs::Runs::some_left), unfolding(delivery::specs::Check::end_of))]
+fn ended(started: bool, rest: &[u8], at: usize) -> Result<(), Refused>
     ensures { said result ≡ end_of started rest.now at }
 {
-    if started {
-        if rest.len() == 0 {
-            return Answer::Passed;
-        }
-        return refuse(Refusal::BytesAfterStart, at);
-    }
-    if rest.len() == 0 {
-        return refuse(Refusal::NotStarted, at);
-    }
-    refuse(Refusal::PacketCut, at)
+    let refusal = match (started, rest.is_empty()) {
+        (true, true) => return Ok(()),
+        (true, false) => Refusal::BytesAfterStart,
+        (false, true) => Refusal::NotStarted,
+        (false, false) => Refusal::PacketCut,
+    };
+    Err(Refused { refusal, place: at })
 }
 
 // What is answered where a run has come to, by the bits that tell of the two over 0x00 and over 0xFF.
-fn found(answer: Answer, packets: usize, known: &[u8]) -> Checked
+fn found(answer: Result<(), Refused>, packets: usize, known: &[u8]) -> Checked
     ensures { (zeros ones : Trial) → Tells zeros ones known.now
         → answered result zeros.region known.now ≡ single (found (said answer) packets zeros ones) }
 {
-    let unknown = known_bits::unknown(known);
     Checked {
         answer,
         packets,
-        unknown,
+        unknown: known_bits::unknown(known),
     }
 }
 
@@ -203,27 +160,21 @@ fn run(
     let mut packets = 0;
     loop {
         let rest = &script[at..];
-        let mode = state.mode;
-        let started = loader::in_application(mode);
-        let length = packet_ahead(started, rest);
-        if length == 0 {
+        let started = state.mode == Mode::Application;
+        let Some(length) = packet_ahead(started, rest) else {
             return found(ended(started, rest, at), packets, known);
+        };
+        match run_packet(&rest[..length], text, password, state, region, known) {
+            Ok(next) => state = next,
+            Err(refusal) => return found(Err(Refused { refusal, place: at }), packets, known),
         }
-        let end = at + length;
-        match run_packet(&script[at..end], text, password, state, region, known) {
-            Step::Refused(why) => {
-                return found(refuse(why, at), packets, known);
-            }
-            Step::Ran(next) => {
-                state = next;
-                at = end;
-                packets = packets + 1;
-            }
-        }
+        at += length;
+        packets += 1;
     }
 }
 
 // What is said before any packet is run: a refusal, or a pass so far.
+#[tactic(auto, unfolding(delivery::specs::OneRegion::judged_one, delivery::specs::Check::judged_of))]
 fn judge(
     script: &[u8],
     text: &[u8],
@@ -231,34 +182,27 @@ fn judge(
     size: usize,
     region: &[u8],
     known: &[u8],
-) -> Answer
+) -> Result<(), Refused>
     ensures { said result ≡ judged_one script.now text.now password.now size
         (length region.now) (length known.now) }
 {
-    if !region::size_good(size) {
-        return refuse(Refusal::RegionSize, 0);
-    }
-    if region.len() != size {
-        return refuse(Refusal::RegionSize, 0);
-    }
-    if known.len() != size / 8 {
-        return refuse(Refusal::RegionSize, 0);
+    if !region::size_good(size) || region.len() != size || known.len() != size / 8 {
+        return Err(Refused::from(Refusal::RegionSize));
     }
     if password.len() != 256 {
-        return refuse(Refusal::PasswordLength, 0);
+        return Err(Refused::from(Refusal::PasswordLength));
     }
     if LONGEST < script.len() {
-        return refuse(Refusal::TooLong, 0);
+        return Err(Refused::from(Refusal::TooLong));
     }
     match text_image::judge(text, size) {
-        Verdict::Refused { refusal, place } => refuse(refusal, place),
-        Verdict::Sound => {
-            if !script::is_headed(script) {
-                return refuse(Refusal::ScriptHead, 0);
-            }
-            Answer::Passed
-        }
+        Verdict::Refused { refusal, place } => return Err(Refused { refusal, place }),
+        Verdict::Sound => {}
     }
+    if !script::is_headed(script) {
+        return Err(Refused::from(Refusal::ScriptHead));
+    }
+    Ok(())
 }
 
 // Whether the script puts the image of the text into every card with that password and expected checksum.
@@ -279,22 +223,14 @@ pub fn check(
         region.old known.old
         → Upholds script.now text.now password.now expected size (said result.answer) }
 {
-    match judge(script, text, password, size, region, known) {
-        Answer::Refused {
-            refusal: why,
-            place,
-        } => {
-            let answer = refuse(why, place);
-            Checked {
-                answer,
-                packets: 0,
-                unknown: 0,
-            }
-        }
-        Answer::Passed => {
-            region::fill(region, 0x00);
-            region::fill(known, 0x00);
-            run(script, text, password, expected, region, known)
-        }
+    if let Err(refused) = judge(script, text, password, size, region, known) {
+        return Checked {
+            answer: Err(refused),
+            packets: 0,
+            unknown: 0,
+        };
     }
+    region.fill(0x00);
+    known.fill(0x00);
+    run(script, text, password, expected, region, known)
 }

@@ -69,10 +69,7 @@ agree-erased {z} a = rw (length-other (agree-ones a), length-other a) (agree_sam
 pub agree-equal : {z f r : List ℕ} → Agree z f r → z ≡ f → r ≡ z
 agree-equal nothing h = refl
 agree-equal (known {x = x} a) h = ap (x ∷◌) (agree-equal a (tail-eq_of_cons-eq h))
-agree-equal (untouched a) h = absurd (differ (head-eq_of_cons-eq h))
-  where
-    differ : ◌≡◌ {A = ℕ} 0x00 0xFF → ⊥
-    differ e = omega arith
+agree-equal (untouched a) h = absurd (let differ : ◌≡◌ {A = ℕ} 0x00 0xFF = head-eq_of_cons-eq h in omega arith)
 
 -- where the runs over zeros and over 0xFF differ, the first has 0x00
 pub agree-unknown : {z f r : List ℕ} → Agree z f r → (a : ℕ) → eqb (get_or z a 0) (get_or f a 0) ≡ false → get_or z a 0 ≡ 0

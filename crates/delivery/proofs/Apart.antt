@@ -3,16 +3,16 @@
 -- Assumes nothing.
 use mathlib.Core.Path.{◌≡◌, refl, sym, ap, ap₂, ◌∙◌}
 use mathlib.Core.Bool.{Bool, true, false, cond, not, ◌&&◌, true≢false, false≢true}
-use mathlib.Core.List.{List, [], ◌∷◌, ◌++◌}
+use mathlib.Core.List.{List, [], ◌∷◌}
 use Prim.Native.Nat.{ℕ, zero, suc, ◌+◌, ◌-◌, ◌≤◌}
 use native.Mathlib.Omega.{arith}
 use borrow.Author.Tests.{eqb-true, eq-eqb, leb-true}
 use lib.Bits.{bit_and}
 use lib.Dec.{eqb}
-use lib.ListN.{length, get_or, take, drop, replicate, length-replicate, replicate-append-replicate}
-use lib.Seq.{take_at, drop_at}
+use lib.ListN.{length, get_or, take, drop, replicate, length-replicate}
 use Rattle.flash.specs.Flash.{inside, writable, allows_of, Written, write_of}
 use Rattle.flash.proofs.Writing.{write-leaves}
+use Rattle.std.proofs.lemmas.List.{take-replicate, drop-replicate}
 use Rattle.little_endian.proofs.Stored.{stored_same}
 use Rattle.loader.specs.Loader.{Outcome, outcome, is_unlocked, in_mode, wants_unlocked, obeyed_of, received_of}
 use Rattle.loader.specs.Loader.{password_of, write_done, range_done, start_of, done_of}
@@ -50,16 +50,7 @@ zeros-only (suc k) (d ∷ new) h =
 
 -- a part of zeros
 part-zeros : (at m n : ℕ) → at + m ≤ n → take m (drop at (cleared n)) ≡ cleared m
-part-zeros at m n fits =
-    let k = n - (at + m) in
-    let rest = cleared k in
-    let sum : at + (m + k) ≡ n = omega (arith, fits) in
-    let parts : cleared at ++ (cleared m ++ rest) ≡ cleared n =
-    ap (λ (l : List ℕ). cleared at ++ l) (replicate-append-replicate m k 0x00)
-    ∙ replicate-append-replicate at (m + k) 0x00 ∙ ap cleared sum in
-    ap (λ (l : List ℕ). take m (drop at l)) (sym parts)
-    ∙ ap (take m) (drop_at (cleared at) (cleared m ++ rest) at (length-replicate at 0x00))
-    ∙ take_at (cleared m) rest m (length-replicate m 0x00)
+part-zeros at m n fits = ap (take m) (drop-replicate at n 0x00) ∙ take-replicate m (n - at) 0x00 (omega (arith, fits))
 
 -- a write leaves zeros as they are
 write-zeros : (new : List ℕ) (at n : ℕ) → (write_of new at (cleared n)).region ≡ cleared n

@@ -12,18 +12,13 @@ use Rattle.loader.specs.Loader.{is_application}
 use Rattle.region.specs.Same.{same}
 use Rattle.region.proofs.Sames.{same-eq, same_true}
 use Rattle.test_laws.proofs.Tests.{both, on-cond}
-use Rattle.delivery.specs.Check.{Said, passed, refused, Checked, Trial, Step, step, step_of, end_of, found, is_empty, run_from}
+use Rattle.delivery.specs.Check.{passed, refused, Checked, Trial, Step, step, step_of, end_of, found, is_empty, run_from}
 use Rattle.delivery.specs.Check.{ran_on, succeeds_on, behind, begins_start, starts_too_early}
 use Rattle.delivery.proofs.Step.{Ok}
 
 -- a refusal is no pass
-is_pass : Said → Bool
-is_pass passed = true
-is_pass (refused number place) = false
-
 pub no-pass : {A : Type 0} (number place : ℕ) → refused number place ≡ passed → A
-unfolding is_pass
-no-pass number place e = absurd (false≢true (ap is_pass e))
+no-pass number place e = absurd cc
 
 -- whether bytes are left, by their number
 pub none_left : (l : List ℕ) → length l ≡ 0 → is_empty l ≡ true

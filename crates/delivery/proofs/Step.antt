@@ -8,7 +8,7 @@ use borrow.Author.Tests.{eq-eqb, leb-true, not-false}
 use lib.Dec.{eqb}
 use lib.ListN.{length, get_or, take, drop}
 use Rattle.flash.specs.Flash.{inside, writable, written, write_of, range_of, starts_of}
-use Rattle.flash.specs.declared.RangeSum.TheVariants.{Outside, Sum}
+use Rattle.std.specs.Prelude.{Some, None}
 use Rattle.little_endian.specs.Bytes.{stored_at}
 use Rattle.loader.specs.Loader.{Outcome, outcome, is_application, is_unlocked, in_mode, write_said, range_reply, password_of, write_done, range_done, start_of, done_of, wants_unlocked, obeyed_of, received_of, succeeded_of}
 use Rattle.loader.specs.declared.Loader.{Loader}
@@ -78,7 +78,7 @@ module _ (loader : Loader) {z f r : List ℕ} (a : Agree z f r) where
       (record { ok = refl; state = refl; agree = agree-stored at new a (leb-true (at + n) (length z) t.0) })
 
   -- a range checksum that is a success is inside
-  range-done : (t : Bool) (sum : ℕ) → Ok (outcome loader z (range_reply (cond t (Sum sum) Outside))) → t ≡ true
+  range-done : (t : Bool) (sum : ℕ) → Ok (outcome loader z (range_reply (cond t (Some sum) None))) → t ≡ true
   range-done true sum ok = refl
   range-done false sum ok = absurd (false≢true ok)
 

@@ -9,24 +9,17 @@ ghost use Rattle.std.specs.Prelude.{◌≤◌, length, IfOk};
 
 use arguments::Name;
 use byte_parts::front;
-use little_endian::byte_at;
-use report::{Line, System};
+use report::{Line, Printable, System};
+use standing::Reason;
+use std::fmt::Display;
 use std::io::Read;
 use std::random::RandomSource;
 use std::rt::{Env, Files};
 use std::{fs, io};
-use tool_paths::PATH_MAX;
-
-// What was read of a file: so many bytes at the start of the room, which is full where the file has more; or that it
-// could not be read.
-#[derive(Drop)]
-pub enum Reading {
-    Held(usize),
-    Failed,
-}
+use tool_paths::Word;
 
 // Which files that stand are replaced.
-#[derive(Clone, Copy)]
+#[derive(Clone, Copy, PartialEq, Eq)]
 pub enum Replacing {
     Nothing,
     Scripts,
@@ -36,8 +29,8 @@ pub enum Replacing {
 // What may be replaced: neither of two files that were read, and of others those of a kind.
 #[derive(Clone, Copy)]
 pub struct Rule {
-    pub first: Name,
-    pub second: Name,
+    pub first: Option<Name>,
+    pub second: Option<Name>,
     pub replacing: Replacing,
 }
 
@@ -46,44 +39,35 @@ const PASSWORD: usize = 256;
 
 pub const PASSWORD_ROOM: usize = 257;
 
-// Takes the control characters out of a name.
-fn clean(name: &mut [u8]) {
-    let mut before = 0;
-    for i in 0..name.len() {
-        let b = name[i];
-        let after = byte_at(name, i + 1);
-        name[i] = report::shown(before, b, after);
-        before = b;
-    }
-}
-
 // A name as it may be sent to a terminal.
-fn printable(name: &[u8]) -> [u8; PATH_MAX] {
-    let mut room = [0u8; PATH_MAX];
-    little_endian::store(name, 0, &mut room);
-    clean(&mut room);
-    room
+fn printable(name: &[u8]) -> Word {
+    let mut shown = Word::new();
+    for b in Printable::of(name) {
+        let _ = shown.try_push(b);
+    }
+    shown
 }
 
-// Says why a call on a file failed.
-fn failed(rt: &impl System, name: &[u8], why: io::Error) {
-    let shown = printable(name);
+// Says what is wrong with a file, or why a call on it failed.
+fn complain(rt: &impl System, name: &[u8], why: &impl Display) {
     rt.complain(b"cardtool: ");
-    if name.len() == 0 {
+    if name.is_empty() {
         rt.complain(b"an empty name");
     } else {
-        rt.complain(front(&shown, name.len()));
+        rt.complain(&printable(name));
     }
-    Line::new().text(b": ").reason(&why).complain(rt);
+    Line::new().text(": ").reason(why).complain(rt);
 }
 
-// Says what is wrong with a file.
-fn complain(rt: &impl System, name: &[u8], why: &[u8]) {
-    let shown = printable(name);
-    rt.complain(b"cardtool: ");
-    rt.complain(front(&shown, name.len()));
-    rt.complain(why);
-    rt.complain(b"\n");
+// Whether a file is written. Where it is not, that is said, by a name of it.
+fn is_done(rt: &impl System, name: &[u8], written: Result<(), Reason>) -> bool {
+    match written {
+        Ok(()) => true,
+        Err(why) => {
+            complain(rt, name, &why);
+            false
+        }
+    }
 }
 
 // Reads the file at a path to its end, or until the room is full. The answer is how many bytes it has read.
@@ -91,75 +75,75 @@ fn read_all(rt: &impl Files, path: &[u8], room: &mut [u8]) -> io::Result<usize> 
     let mut file = fs::open(rt, tool_paths::text(path)?)?;
     let mut held = 0;
     while held < room.len() {
-        let more = file.read(&mut room[held..])?;
-        if more == 0 {
-            return Ok(held);
+        match file.read(&mut room[held..])? {
+            0 => break,
+            more => held += more,
         }
-        held += more;
     }
     Ok(held)
 }
 
-// Puts the path at which the file of a name is found at the start of a room: the name, or that of a link which is lent where
-// the name is not UTF-8. The answer is its length, 0 where there is none.
-fn put_path(rt: &impl Env, name: Name, room: &mut [u8]) -> usize {
-    let n = arguments::put_name(rt, name, room);
-    if let Ok(_) = tool_paths::text(front(room, n)) {
-        return n;
+// The path at which the file of a name is found: the name, or that of a link which is lent where the name is not UTF-8.
+fn path_of(rt: &impl Env, name: Option<Name>) -> Word {
+    let word = arguments::word_of(rt, name);
+    if tool_paths::text(&word).is_ok() {
+        return word;
     }
-    let m = arguments::put_link(rt, name, room);
-    if m != 0 {
-        return m;
-    }
-    arguments::put_name(rt, name, room)
+    arguments::link_of(rt, name).unwrap_or(word)
 }
 
-// Reads the file of a name. A room with one byte more than is wanted shows that a file is too long.
-pub fn read(rt: &(impl System + Env + Files), name: Name, room: &mut [u8]) -> Reading {
-    let mut word = [0u8; PATH_MAX];
-    let n = arguments::put_name(rt, name, &mut word);
-    let mut path = [0u8; PATH_MAX];
-    let m = put_path(rt, name, &mut path);
-    match read_all(rt, front(&path, m), room) {
-        Ok(held) => Reading::Held(held),
+// Reads the file of a name, as far as the room reaches, which is full where the file has more. A room with one byte more than
+// is wanted shows that a file is too long. Where it cannot be read, that is said.
+pub fn read<'a>(
+    rt: &(impl System + Env + Files),
+    name: Option<Name>,
+    room: &'a mut [u8],
+) -> Option<&'a [u8]> {
+    match read_all(rt, &path_of(rt, name), room) {
+        Ok(held) => Some(front(room, held)),
         Err(why) => {
-            failed(rt, front(&word, n), why);
-            Reading::Failed
+            complain(rt, &arguments::word_of(rt, name), &why);
+            None
         }
     }
 }
 
 // Reads the password of a file; where none is named, it is that of the vendor's page, all 0xFF.
-pub fn read_password(rt: &(impl System + Env + Files), name: Name, room: &mut [u8]) -> Reading {
-    if name.argument != 0 {
+pub fn read_password<'a>(
+    rt: &(impl System + Env + Files),
+    name: Option<Name>,
+    room: &'a mut [u8],
+) -> Option<&'a [u8]> {
+    if name.is_some() {
         return read(rt, name, room);
     }
-    region::fill(room, 0xFF);
-    Reading::Held(PASSWORD)
+    room.fill(0xFF);
+    Some(front(room, PASSWORD))
 }
 
 // Puts bytes into the file of a name, whole or not at all, if what stands there may be replaced. The answer is whether it
 // was written.
 pub fn save(
     rt: &(impl System + Env + Files + RandomSource + Alloc),
-    to: Name,
+    to: Option<Name>,
     bytes: &[u8],
     rule: Rule,
 ) -> bool {
-    let mut word = [0u8; PATH_MAX];
-    let n = arguments::put_name(rt, to, &mut word);
-    let path = front(&word, n);
-    if n == 0 {
-        complain(rt, b"an empty name", b": no file has it");
+    let path = arguments::word_of(rt, to);
+    if path.is_empty() {
+        complain(rt, &path, &"no file has it");
         return false;
     }
-    let mut link = [0u8; PATH_MAX];
-    let m = arguments::put_link(rt, to, &mut link);
-    if m != 0 && !new::leads_in_text(rt, path) {
-        return new::put_beside(rt, path, front(&link, m), bytes, rule);
+    if let Some(link) = arguments::link_of(rt, to)
+        && !new::leads_in_text(rt, &path)
+    {
+        return is_done(rt, &path, new::put_beside(rt, &link, bytes, rule));
     }
-    if !standing::is_free(rt, path, path, rule) {
-        return false;
+    match new::place_of(rt, &path, rule) {
+        Ok(place) => is_done(rt, &place, new::put_at_place(rt, &place, bytes, rule)),
+        Err(why) => {
+            complain(rt, &path, &why);
+            false
+        }
     }
-    new::put_in_place(rt, path, bytes, rule)
 }

@@ -1,31 +1,31 @@
 // What stands where a file is to be written, and whether it may be replaced. Files are told apart by device and number,
 // whatever their names are.
-use crate::{Replacing, Rule, complain, failed, put_path, read_all};
+use crate::{Replacing, Rule, path_of, read_all};
 use arguments::Name;
-use byte_parts::{front, line_of};
-use report::System;
 use std::io;
 use std::rt::{Env, Files};
-use tool_paths::{File, PATH_MAX, Standing};
+use thiserror::Error;
+use tool_paths::{File, Standing};
 
-// Why no file is written: by the number of the reason's line in `is_free`, or this.
-const NONE: usize = 0;
-
-// Whether two files are one.
-fn is_same(a: File, b: File) -> bool {
-    if a.device != b.device {
-        return false;
-    }
-    a.number == b.number
+// Why no file is written.
+#[derive(Debug, Drop, Error)]
+pub enum Reason {
+    #[error("the file stands already; --force replaces it")]
+    Stands,
+    #[error("the file stands already and is no script; --force replaces it")]
+    NoScript,
+    #[error("the file is one of those read, and is not replaced")]
+    Read,
+    #[error("this is no regular file, and is not replaced")]
+    NotRegular,
+    #[error(transparent)]
+    Failed(#[from] io::Error),
 }
 
 // Whether a file is the one of a name.
-fn is_named(rt: &(impl Env + Files), file: File, name: Name) -> bool {
-    let mut path = [0u8; PATH_MAX];
-    let n = put_path(rt, name, &mut path);
-    match tool_paths::look_at(rt, front(&path, n)) {
-        Standing::Regular(other) => is_same(file, other),
-        Standing::Other(other) => is_same(file, other),
+fn is_named(rt: &(impl Env + Files), file: File, name: Option<Name>) -> bool {
+    match tool_paths::look_at(rt, &path_of(rt, name)) {
+        Ok(Standing::Regular(other) | Standing::Other(other)) => file == other,
         _ => false,
     }
 }
@@ -33,65 +33,32 @@ fn is_named(rt: &(impl Env + Files), file: File, name: Name) -> bool {
 // Whether the file at a path begins as a script does.
 fn is_script(rt: &impl Files, path: &[u8]) -> bool {
     let mut mark = [0u8; 3];
-    match read_all(rt, path, &mut mark) {
-        Ok(_) => region::same(&mark, b"BSX"),
-        Err(_) => false,
+    read_all(rt, path, &mut mark).is_ok() && mark == *b"BSX"
+}
+
+// Whether a regular file may be replaced, or why not.
+fn judge_regular(
+    rt: &(impl Env + Files),
+    path: &[u8],
+    file: File,
+    rule: Rule,
+) -> Result<(), Reason> {
+    if is_named(rt, file, rule.first) || is_named(rt, file, rule.second) {
+        return Err(Reason::Read);
+    }
+    match rule.replacing {
+        Replacing::Any => Ok(()),
+        Replacing::Nothing => Err(Reason::Stands),
+        Replacing::Scripts if is_script(rt, path) => Ok(()),
+        Replacing::Scripts => Err(Reason::NoScript),
     }
 }
 
-// Why a regular file that was not read is not replaced.
-fn kept(rt: &impl Files, path: &[u8], replacing: Replacing) -> usize {
-    match replacing {
-        Replacing::Any => NONE,
-        Replacing::Nothing => 1,
-        Replacing::Scripts => if is_script(rt, path) { NONE } else { 2 },
+// Whether a file may be written at a path, or why not.
+pub fn judge(rt: &(impl Env + Files), path: &[u8], rule: Rule) -> Result<(), Reason> {
+    match tool_paths::look_at(rt, path)? {
+        Standing::Missing => Ok(()),
+        Standing::Regular(file) => judge_regular(rt, path, file, rule),
+        Standing::Other(_) => Err(Reason::NotRegular),
     }
-}
-
-// Why a regular file is not replaced.
-fn regular(rt: &(impl Env + Files), path: &[u8], file: File, rule: Rule) -> usize {
-    if is_named(rt, file, rule.first) {
-        return 3;
-    }
-    if is_named(rt, file, rule.second) {
-        return 3;
-    }
-    kept(rt, path, rule.replacing)
-}
-
-// Why no file is written at a path; or it is an error that the system does not say what stands there.
-fn reason(rt: &(impl Env + Files), path: &[u8], rule: Rule) -> io::Result<usize> {
-    match tool_paths::look_at(rt, path) {
-        Standing::Missing => Ok(NONE),
-        Standing::Regular(file) => Ok(regular(rt, path, file, rule)),
-        Standing::Other(_) => Ok(4),
-        Standing::TooLong => Ok(5),
-        Standing::Unknown(why) => Err(why),
-    }
-}
-
-// Whether a file may be written at a path. Where it may not, that is said, by a name of the path.
-pub fn is_free(rt: &(impl System + Env + Files), name: &[u8], path: &[u8], rule: Rule) -> bool {
-    let number = match reason(rt, path, rule) {
-        Ok(number) => number,
-        Err(why) => {
-            failed(rt, name, why);
-            return false;
-        }
-    };
-    if number == NONE {
-        return true;
-    }
-    let why = line_of(
-        b"no reason
-: the file stands already; --force replaces it
-: the file stands already and is no script; --force replaces it
-: the file is one of those read, and is not replaced
-: this is no regular file, and is not replaced
-: the name is too long
-",
-        number,
-    );
-    complain(rt, name, why);
-    false
 }

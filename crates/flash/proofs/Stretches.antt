@@ -1,7 +1,7 @@
 -- Stretches of a region, one behind the other, are joined as their bytes are.
 -- Assumes nothing.
 use mathlib.Core.Path.{◌≡◌, refl, sym, ap, ◌∙◌}
-use mathlib.Core.Bool.{Bool, true, false, cond, false≢true}
+use mathlib.Core.Bool.{Bool, true, false, cond}
 use mathlib.Core.List.{List, [], ◌∷◌, ◌++◌}
 use Prim.Native.Nat.{ℕ, ◌+◌, ◌≤◌}
 use native.Mathlib.Nat.{add-zero}
@@ -9,28 +9,21 @@ use native.Mathlib.Omega.{arith}
 use borrow.Author.Tests.{leb-true, le-leb}
 use lib.ListN.{length, take, drop, length-drop}
 use lib.Seq.{take-add, drop-drop, length-take-le}
+use Rattle.std.proofs.lemmas.Option.{none-some}
+use Rattle.std.specs.Prelude.{Option, Some, None}
+use Rattle.std.specs.Option.{unwrap_or}
 use Rattle.crc.specs.Crc.{checksum_of, joined_of, register, bit_string, bits_in}
 use Rattle.crc.proofs.Linear.{joins}
 use Rattle.flash.specs.Flash.{inside, range_of}
 use Rattle.flash.specs.Stretches.{Stretch, Answered, bytes_in, joined_all, StretchesJoin}
-use Rattle.flash.specs.declared.RangeSum.{RangeSum}
-use Rattle.flash.specs.declared.RangeSum.TheVariants.{Outside, Sum}
-
-abbrev is_sum : RangeSum → Bool
-is_sum Outside = false
-is_sum (Sum sum) = true
-
-abbrev sum_in : RangeSum → ℕ
-sum_in Outside = 0
-sum_in (Sum sum) = sum
 
 -- a range that has a checksum is inside, and has that of its bytes
-answered : (within : Bool) (sum said : ℕ) → cond within (Sum sum) Outside ≡ Sum said → (within ≡ true) × (sum ≡ said)
-answered true sum said h = (refl, ap sum_in h)
-answered false sum said h = absurd (false≢true (ap is_sum h))
+answered : (within : Bool) (sum said : ℕ) → cond within (Some sum) None ≡ Some said → (within ≡ true) × (sum ≡ said)
+answered true sum said h = (refl, ap (λ (o : Option ℕ). unwrap_or o 0) h)
+answered false sum said h = absurd (none-some said h)
 
 -- no bytes from inside the region have the checksum that every check starts at
-nothing : (address : ℕ) (region : List ℕ) → address ≤ length region → range_of address 0 region ≡ Sum 0xFFFF
+nothing : (address : ℕ) (region : List ℕ) → address ≤ length region → range_of address 0 region ≡ Some 0xFFFF
 unfolding range_of register bit_string bits_in
 nothing address region h =
     let within : inside address 0 (length region) ≡ true = le-leb (address + 0) (length region) (omega arith) in
@@ -38,8 +31,8 @@ nothing address region h =
 
 -- two ranges, one behind the other
 two-join : (address n m first second : ℕ) (region : List ℕ)
-    → range_of address n region ≡ Sum first → range_of (address + n) m region ≡ Sum second
-    → range_of address (n + m) region ≡ Sum (joined_of first second m)
+    → range_of address n region ≡ Some first → range_of (address + n) m region ≡ Some second
+    → range_of address (n + m) region ≡ Some (joined_of first second m)
 unfolding range_of
 two-join address n m first second region one other =
     let x = take n (drop address region) in
@@ -51,13 +44,13 @@ two-join address n m first second region one other =
     let parts : take (n + m) (drop address region) ≡ x ++ y =
     take-add n m (drop address region) ∙ ap (λ (l : List ℕ). x ++ take m l) (drop-drop n address region) in
     let long : length y ≡ m = length-take-le m (drop (address + n) region) (omega (arith, length-drop (address + n) region)) in
-    simp within (ap Sum
+    simp within (ap Some
     (ap checksum_of parts ∙ sym (joins 16 0x1021 0xFFFF x y) ∙ rw (a.1, b.1, long)))
 
 -- behind a range of n bytes whose checksum is known
 behind-join : (address n first : ℕ) (stretches : List Stretch) (region : List ℕ)
-    → range_of address n region ≡ Sum first → Answered (address + n) stretches region
-    → range_of address (n + bytes_in stretches) region ≡ Sum (joined_all first stretches)
+    → range_of address n region ≡ Some first → Answered (address + n) stretches region
+    → range_of address (n + bytes_in stretches) region ≡ Some (joined_all first stretches)
 behind-join address n first [] region known answers = ap (λ (k : ℕ). range_of address k region) (add-zero n) ∙ known
 behind-join address n first (s ∷ stretches) region known answers =
     let next : address + n + s.count ≡ address + (n + s.count) = omega arith in

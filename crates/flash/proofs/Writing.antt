@@ -1,36 +1,38 @@
--- Laws of writing: the test of two lists, from a place on, and what a write leaves.
+-- Laws of writing: the test of two lists, pair by pair, and what a write leaves.
 -- Assumes nothing.
-use mathlib.Core.Path.{◌≡◌, refl, sym}
-use mathlib.Core.Bool.{true, false, false≢true, ◌&&◌}
-use mathlib.Core.List.{List}
-use Prim.Native.Nat.{ℕ, ◌+◌, ◌<◌, ◌≤◌}
-use native.Mathlib.Numerals.{add-one}
+use mathlib.Core.Path.{◌≡◌, refl, sym, ap, ◌∙◌}
+use mathlib.Core.Bool.{Bool, false, false≢true, ◌&&◌}
+use mathlib.Core.List.{List, [], ◌∷◌}
+use Prim.Native.Nat.{ℕ, ◌<◌, ◌≤◌}
+use native.Mathlib.Omega.{arith}
+use Rattle.std.proofs.Math.Bool.{and-false}
 use lib.Bits.{bit_and}
 use lib.Dec.{eqb}
 use borrow.Author.Tests.{leb-true}
-use lib.ListN.{length, get_or, take, drop, drop_of_length-le}
-use lib.Seq.{drop-cons}
+use lib.ListN.{length, take, drop}
 use Rattle.little_endian.proofs.Stored.{stored-length}
+use Rattle.std.specs.List.{zip, list_all}
 use Rattle.test_laws.proofs.Tests.{both, on-cond}
 use Rattle.flash.specs.Flash.{inside, writable, Written, write_of}
 
-module _ (old new : List ℕ) (i : ℕ) where
-  -- from a place inside both on: the bytes there, and what is behind them
-  pub writable-next : i < length old → i < length new
-      → writable (drop i old) (drop i new)
-      ≡ eqb (get_or new i 0) (bit_and (get_or old i 0) (get_or new i 0)) && writable (drop (i + 1) old) (drop (i + 1) new)
-  unfolding writable
-  writable-next inold innew = rw (drop-cons old i 0, drop-cons new i 0, add-one)
+-- a new byte equals old AND new
+abbrev pub clears : ℕ × ℕ → Bool
+clears p = eqb p.1 (bit_and p.0 p.1)
 
-  -- from the end of the old bytes on nothing can be written
-  pub writable-short : length old ≤ i → i < length new → writable (drop i old) (drop i new) ≡ false
-  unfolding writable
-  writable-short past innew = rw (drop_of_length-le old past, drop-cons new i 0)
+-- no more new bytes than old ones: each beside its own
+pub writable-by_pairs : (old new : List ℕ) → length new ≤ length old → list_all clears (zip old new) ≡ writable old new
+unfolding writable
+writable-by_pairs [] [] fits = refl
+writable-by_pairs [] (n ∷ new) fits = absurd (omega arith)
+writable-by_pairs (o ∷ old) [] fits = refl
+writable-by_pairs (o ∷ old) (n ∷ new) fits = ap (λ (b : Bool). clears (o, n) && b) (writable-by_pairs old new (omega arith))
 
-  -- from the end of the new bytes on nothing is left to test
-  pub writable-end : length new ≤ i → writable (drop i old) (drop i new) ≡ true
-  unfolding writable
-  writable-end past = rw (drop_of_length-le new past)
+-- more new bytes than old ones
+pub writable_short : (old new : List ℕ) → length old < length new → writable old new ≡ false
+unfolding writable
+writable_short old [] past = absurd (omega arith)
+writable_short [] (n ∷ new) past = refl
+writable_short (o ∷ old) (n ∷ new) past = ap (λ (b : Bool). clears (o, n) && b) (writable_short old new (omega arith)) ∙ and-false (clears (o, n))
 
 -- what holds of a write that is done or not: the region keeps its length, and one that is not done leaves it
 pub record Leaves (region : List ℕ) (w : Written) : Type 0 where

@@ -1,11 +1,9 @@
 -- What commands do to a flash region and ask of it (document 01, "The loader").
 -- Assumes nothing.
-use Rattle.std.specs.Prelude.{Bool, true, false, cond, ◌&&◌, List, [], ◌∷◌, ℕ, ◌+◌, eqb, leb, ltb, length, take, drop}
+use Rattle.std.specs.Prelude.{Bool, true, false, cond, ◌&&◌, Option, Some, None, List, [], ◌∷◌, ℕ, ◌+◌, eqb, leb, ltb, length, take, drop}
 use Rattle.std.specs.Int.Bits.{bit_and}
 use Rattle.crc.specs.Crc.{checksum_of}
 use Rattle.little_endian.specs.Bytes.{stored_at}
-use Rattle.flash.specs.declared.RangeSum.{RangeSum}
-use Rattle.flash.specs.declared.RangeSum.TheVariants.{Outside, Sum}
 
 -- a range of so many bytes at an address lies inside a region of the size
 abbrev pub inside : ℕ → ℕ → ℕ → Bool
@@ -34,9 +32,9 @@ written done region = record { done = done; region = region }
 unfoldable pub write_of : List ℕ → ℕ → List ℕ → Written
 write_of new address region = cond (allows_of new address region) (written true (stored_at address new region)) (written false region)
 
--- the checksum of a range, where it is inside the region
-unfoldable pub range_of : ℕ → ℕ → List ℕ → RangeSum
-range_of address n region = cond (inside address n (length region)) (Sum (checksum_of (take n (drop address region)))) Outside
+-- the checksum of a range, where it is inside the region; otherwise none
+unfoldable pub range_of : ℕ → ℕ → List ℕ → Option ℕ
+range_of address n region = cond (inside address n (length region)) (Some (checksum_of (take n (drop address region)))) None
 
 -- the entry address is below N, and the checksum of all N bytes equals the expected one
 unfoldable pub starts_of : ℕ → ℕ → List ℕ → Bool

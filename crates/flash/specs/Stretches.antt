@@ -1,10 +1,9 @@
 -- Checking a segment over several stretches (document 02, T-04). What the loader answers to a range checksum is `range_of`, from
 -- 0xFFFF each time.
 -- Assumes nothing.
-use Rattle.std.specs.Prelude.{List, [], ◌∷◌, ◌≡◌, ℕ, ◌+◌, ◌≤◌, length}
+use Rattle.std.specs.Prelude.{Some, List, [], ◌∷◌, ◌≡◌, ℕ, ◌+◌, ◌≤◌, length}
 use Rattle.crc.specs.Crc.{joined_of}
 use Rattle.flash.specs.Flash.{range_of}
-use Rattle.flash.specs.declared.RangeSum.TheVariants.{Sum}
 
 -- the number of a stretch's bytes, and the checksum that was answered for it
 pub record Stretch : Type 0 where
@@ -15,7 +14,7 @@ pub record Stretch : Type 0 where
 abbrev pub Answered : (address : ℕ) → List Stretch → (region : List ℕ) → Type 0
 Answered address [] region = Unit
 Answered address (s ∷ stretches) region =
-    (range_of address s.count region ≡ Sum s.sum) × Answered (address + s.count) stretches region
+    (range_of address s.count region ≡ Some s.sum) × Answered (address + s.count) stretches region
 
 -- the number of all their bytes
 abbrev pub bytes_in : List Stretch → ℕ
@@ -32,4 +31,4 @@ joined_all first (s ∷ stretches) = joined_all (joined_of first s.sum s.count) 
 abbrev pub StretchesJoin : Type 0
 StretchesJoin =
     (address : ℕ) (stretches : List Stretch) (region : List ℕ) → address ≤ length region → Answered address stretches region
-    → range_of address (bytes_in stretches) region ≡ Sum (joined_all 0xFFFF stretches)
+    → range_of address (bytes_in stretches) region ≡ Some (joined_all 0xFFFF stretches)

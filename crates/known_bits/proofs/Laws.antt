@@ -9,10 +9,11 @@ use Prim.Native.Nat.{suc-le-suc}
 use Rattle.address_set.proofs.Maps.{unmarked}
 use native.Mathlib.Omega.{arith}
 use borrow.Author.Tests.{eqb-true, eqb-false, eq-eqb, ne_eqb, le-ltb, ltb-true, ltb-false, leb-true}
-use lib.Count.{ones, ones_step}
+use lib.Count.{ones, ones_step, ones-le}
 use lib.Dec.{eqb, leb, ltb}
 use lib.ListN.{length, get_or, take, drop, replicate, length-replicate, length-drop, get_or-replicate}
 use lib.Seq.{get_or-take, get_or-drop, length-take-le}
+use Rattle.std.proofs.lemmas.List.Sums.{sum_by-cons}
 use Rattle.address_set.specs.Bits.{marked}
 use Rattle.little_endian.specs.Bytes.{Bytes, stored_at}
 use Rattle.little_endian.proofs.Stored.{stored-length, stored-inside, stored-outside}
@@ -23,13 +24,6 @@ use Rattle.known_bits.proofs.Ranges.{range-adds}
 
 -- ---- counting
 
-no_ones : (n : ℕ) → n < 1 → ones n ≡ 0
-unfolding ones
-no_ones n small = ap ones (zero_of n small)
-  where
-    zero_of : (n : ℕ) → n < 1 → n ≡ 0
-    zero_of n h = omega (arith, h)
-
 -- the lowest bit of a number, as a place that differs or not
 low_bit : (r : ℕ) (t : Bool) → r < 2 → eqb r 1 ≡ t → cond t 0 1 + r ≡ 1
 low_bit r true small e = omega (arith, eqb-true r 1 e)
@@ -39,7 +33,7 @@ low_bit r false small e = let other : r ≡ 1 → ⊥ = eqb-false r 1 e in omega
 bits-differ : (k n : ℕ) (z f : List ℕ) → length z ≡ k → length f ≡ k → n < 2 ^ k
     → ((j : ℕ) → j < k → eqb (n / 2 ^ j % 2) 1 ≡ eqb (get_or z j 0) (get_or f j 0)) → differ z f + ones n ≡ k
 unfolding differ
-bits-differ zero n [] f lz lf small bit = omega (arith, no_ones n small)
+bits-differ zero n [] f lz lf small bit = omega (arith, ones-le 0 n small)
 bits-differ zero n (x ∷ z) f lz lf small bit = absurd (omega (arith, lz))
 bits-differ (suc k) n [] f lz lf small bit = absurd (omega (arith, lz))
 bits-differ (suc k) n (x ∷ z) [] lz lf small bit = absurd (omega (arith, lf))
@@ -93,7 +87,7 @@ knows-behind b known z f k =
 
 -- the places where two buffers differ, and those that are known, are all
 unknown-places : (known z f : List ℕ) → Bytes known → Knows z f known → differ z f + count_of known ≡ length z
-unfolding count_of differ
+unfolding differ
 unknown-places [] z f bytes k = omega (arith, none z k.sized, k.sized)
   where
     none : (z : List ℕ) → length z ≡ 0 → differ z f ≡ 0
@@ -107,7 +101,7 @@ unknown-places (b ∷ known) z f bytes k =
     (λ j h. sym (first_bit b known j h) ∙ k.bits j (omega (arith, n, h)) ∙ ap₂ eqb (sym (get_or-take 8 z j 0 h))
     (sym (get_or-take 8 f j 0 h))) in
     let rest = unknown-places known (drop 8 z) (drop 8 f) (λ i. bytes (suc i)) (knows-behind b known z f k) in
-    omega (arith, differ-parts 8 z f, first, rest, length-drop 8 z, n)
+    omega (arith, differ-parts 8 z f, first, rest, length-drop 8 z, n, sum_by-cons ones b known)
 
 -- ---- what the packets do to them
 

@@ -3,40 +3,17 @@
 use mathlib.Core.Path.{◌≡◌, refl, sym, ap, ◌∙◌}
 use mathlib.Core.Bool.{Bool, true, false, ◌&&◌, ◌||◌}
 use mathlib.Core.List.{List}
-use Prim.Native.Nat.{ℕ, ◌+◌, ◌*◌, ◌/◌, ◌%◌, ◌^◌, ◌≤◌, ◌<◌}
+use Prim.Native.Nat.{ℕ, ◌+◌, ◌*◌, ◌/◌, ◌%◌, ◌^◌, ◌-◌, ◌≤◌, ◌<◌}
 use native.Mathlib.Omega.{arith}
-use borrow.Author.Tests.{eqb-true, eqb-false, ne_eqb, lt-ltb, le-ltb, leb-true, leb-false, le-leb, lt-leb}
+use Rattle.std.proofs.Math.Bool.{or-false, and-false, or_assoc}
+use Rattle.std.proofs.lemmas.List.{places}
+use borrow.Author.Tests.{ltb-true, ltb-false, lt-ltb, le-ltb, leb-true, leb-false, le-leb, lt-leb}
 use lib.Dec.{eqb, leb, ltb}
-use lib.ListN.{length, set, get_or}
-use lib.Seq.{get_or-set_same, get_or-set_other}
-use Rattle.address_set.specs.Bits.{marked, Marked}
-use Rattle.address_set.proofs.Maps.{marked_more}
+use lib.ListN.{length, get_or, replicate}
+use borrow.Rule.Slice.PartMut.{put_mid}
+use Rattle.address_set.specs.Bits.{marked}
 use Rattle.test_laws.proofs.Tests.{below}
-use Rattle.known_bits.specs.Known.{longest_map, between, has_range, WithRange}
-
--- a map with the addresses from one on and below another besides
-abbrev pub Adds : (from end : ℕ) → List ℕ → List ℕ → Type 0
-Adds from end old new = (a : ℕ) → marked new a ≡ (between from end a || marked old a)
-
-or-none : (t : Bool) → (t || false) ≡ t
-or-none true = refl
-or-none false = refl
-
-and_none : (t : Bool) → (t && false) ≡ false
-and_none true = refl
-and_none false = refl
-
-or_assoc : (a b c : Bool) → (a || (b || c)) ≡ ((a || b) || c)
-or_assoc true b c = refl
-or_assoc false b c = refl
-
--- no address is in an empty range
-between_none : (from a : ℕ) → between from from a ≡ false
-between_none from a = go (leb from a) refl
-  where
-    go : (t : Bool) → leb from a ≡ t → (t && ltb a from) ≡ false
-    go true e = le-ltb a from (leb-true from a e)
-    go false e = refl
+use Rattle.known_bits.specs.Known.{longest_map, between, Adds, has_range, WithRange}
 
 -- two ranges side by side are one
 between-joined : (from at end a : ℕ) → from ≤ at → at ≤ end → (between at end a || between from at a) ≡ between from end a
@@ -45,66 +22,68 @@ between-joined from at end a low high = go (leb at a) refl
     go : (t : Bool) → leb at a ≡ t → ((t && ltb a end) || between from at a) ≡ between from end a
     go true e =
         let past : at ≤ a = leb-true at a e in
-        rw (le-ltb a at past, le-leb from a (omega arith)) (or-none (ltb a end))
+        rw (le-ltb a at past, le-leb from a (omega arith)) (or-false (ltb a end))
     go false e =
         let before : a < at = leb-false at a e in
         rw (lt-ltb a at before, lt-ltb a end (omega arith)) refl
-
--- one address is a range
-between-one : (at a : ℕ) → between at (at + 1) a ≡ eqb a at
-between-one at a = go (leb at a) refl
-  where
-    go : (t : Bool) → leb at a ≡ t → (t && ltb a (at + 1)) ≡ eqb a at
-    go true e =
-        let past : at ≤ a = leb-true at a e in
-        is past (eqb a at) refl
-      where
-        is : at ≤ a → (t : Bool) → eqb a at ≡ t → ltb a (at + 1) ≡ t
-        is past true e = let same : a ≡ at = eqb-true a at e in lt-ltb a (at + 1) (omega (arith, same))
-        is past false e = let other : a ≡ at → ⊥ = eqb-false a at e in le-ltb a (at + 1) (omega (arith, other, past))
-    go false e =
-        let before : a < at = leb-false at a e in
-        sym (ne_eqb a at (λ (same : a ≡ at). omega (arith, same, before)))
-
--- nothing added
-pub adds_none : (from : ℕ) (map : List ℕ) → Adds from from map map
-adds_none from map a = ap (λ (t : Bool). t || marked map a) (sym (between_none from a))
 
 -- one range behind another
 pub adds-more : (from at end : ℕ) (old map new : List ℕ) → from ≤ at → at ≤ end → Adds from at old map → Adds at end map new
     → Adds from end old new
 adds-more from at end old map new low high before more a =
-    more a ∙ ap (λ (t : Bool). between at end a || t) (before a) ∙ or_assoc (between at end a) (between from at a) (marked old a)
+    more a ∙ ap (λ (t : Bool). between at end a || t) (before a) ∙ sym (or_assoc (between at end a) (between from at a) (marked old a))
     ∙ ap (λ (t : Bool). t || marked old a) (between-joined from at end a low high)
 
--- one address
-pub adds_one : (at : ℕ) (map new : List ℕ) → at / 8 < length map → Marked map new at → Adds at (at + 1) map new
-adds_one at map new inside m a = marked_more map new at inside m a ∙ ap (λ (t : Bool). t || marked map a) (sym (between-one at a))
+-- the eight addresses of each of some bytes that become 0xFF: none, or those from the first of one byte on and below that of another
+module _ (from end : ℕ) (map : List ℕ) (ordered : from ≤ end) (fits : end ≤ length map * 8)
+    (whole : (from ≡ end → ⊥) → (from % 8 ≡ 0) × (end % 8 ≡ 0)) where
+  abbrev filled : List ℕ
+  filled = put_mid (from / 8) (end / 8 - from / 8) map (replicate (end / 8 - from / 8) 0xFF)
 
--- the eight of a byte
-pub adds-eight : (at : ℕ) (map : List ℕ) → at % 8 ≡ 0 → at / 8 < length map → Adds at (at + 8) map (set map (at / 8) 0xFF)
-unfolding marked
-adds-eight at map first inside a = go (eqb (a / 8) (at / 8)) refl
-  where
-    new : List ℕ
-    new = set map (at / 8) 0xFF
+  at-filled : (k : ℕ) → from / 8 ≤ k → k < end / 8 → get_or filled k 0 ≡ 0xFF
+  at-filled k low high = grind (arith, places)
 
-    go : (t : Bool) → eqb (a / 8) (at / 8) ≡ t → marked new a ≡ (between at (at + 8) a || marked map a)
-    go true e =
-        let q : a / 8 ≡ at / 8 = eqb-true _ _ e in
-        let in-range : between at (at + 8) a ≡ true = rw (le-leb at a (omega arith), lt-ltb a (at + 8) (omega arith)) refl in
-        ap (λ (i : ℕ). eqb (get_or new i 0 / 2 ^ (a % 8) % 2) 1) q
-        ∙ ap (λ (x : ℕ). eqb (x / 2 ^ (a % 8) % 2) 1) (get_or-set_same map (at / 8) 0xFF 0 inside)
-        ∙ below 8 (λ k. eqb (0xFF / 2 ^ k % 2) 1) refl (a % 8) (omega arith)
-        ∙ ap (λ (t : Bool). t || marked map a) (sym in-range)
-    go false e =
-        let n : a / 8 ≡ at / 8 → ⊥ = eqb-false _ _ e in
-        ap (λ (x : ℕ). eqb (x / 2 ^ (a % 8) % 2) 1) (get_or-set_other map (at / 8) (a / 8) 0xFF 0 n)
-        ∙ ap (λ (t : Bool). t || marked map a) (sym (outside n (leb at a) refl))
-      where
-        outside : (a / 8 ≡ at / 8 → ⊥) → (t : Bool) → leb at a ≡ t → (t && ltb a (at + 8)) ≡ false
-        outside n true e = let past : at ≤ a = leb-true at a e in le-ltb a (at + 8) (omega (arith, n, past, first))
-        outside n false e = refl
+  before-filled : (k : ℕ) → k < from / 8 → get_or filled k 0 ≡ get_or map k 0
+  before-filled k low = grind (arith, places)
+
+  behind-filled : (k : ℕ) → from / 8 ≤ k → end / 8 ≤ k → get_or filled k 0 ≡ get_or map k 0
+  behind-filled k low high = grind (arith, places)
+
+  -- no address of the range is in a byte before them or behind them
+  between-not : (a : ℕ) → (from / 8 ≤ a / 8 → a / 8 < end / 8 → ⊥) → between from end a ≡ false
+  between-not a outside = go (leb from a) refl
+    where
+      go : (t : Bool) → leb from a ≡ t → (t && ltb a end) ≡ false
+      go true e =
+          let past : from ≤ a = leb-true _ _ e in
+          let inside : a < end → ⊥ =
+          λ below-end. let both = whole (λ (same : from ≡ end). omega (arith, past, below-end, same)) in
+          outside (omega (arith, past)) (omega (arith, below-end, both.1)) in
+          le-ltb a end (omega (arith, inside))
+      go false e = refl
+
+  pub adds-filled : Adds from end map filled
+  unfolding marked
+  adds-filled a = go (leb (from / 8) (a / 8)) (ltb (a / 8) (end / 8)) refl refl
+    where
+      kept : get_or filled (a / 8) 0 ≡ get_or map (a / 8) 0 → between from end a ≡ false → marked filled a ≡ (between from end a || marked map a)
+      kept e none = ap (λ (x : ℕ). eqb (x / 2 ^ (a % 8) % 2) 1) e ∙ ap (λ (t : Bool). t || marked map a) (sym none)
+
+      go : (l h : Bool) → leb (from / 8) (a / 8) ≡ l → ltb (a / 8) (end / 8) ≡ h → marked filled a ≡ (between from end a || marked map a)
+      go true true low high =
+          let past : from / 8 ≤ a / 8 = leb-true _ _ low in
+          let inside : a / 8 < end / 8 = ltb-true _ _ high in
+          let both = whole (λ (same : from ≡ end). omega (arith, past, inside, same)) in
+          let in-range : between from end a ≡ true = rw (le-leb from a (omega (arith, both.0)), lt-ltb a end (omega arith)) refl in
+          ap (λ (x : ℕ). eqb (x / 2 ^ (a % 8) % 2) 1) (at-filled (a / 8) past inside)
+          ∙ below 8 (λ k. eqb (0xFF / 2 ^ k % 2) 1) refl (a % 8) (omega arith)
+          ∙ ap (λ (t : Bool). t || marked map a) (sym in-range)
+      go true false low high =
+          let past : end / 8 ≤ a / 8 = ltb-false _ _ high in
+          kept (behind-filled (a / 8) (leb-true _ _ low) past) (between-not a (λ l h. omega (arith, past, h)))
+      go false h low high =
+          let before : a / 8 < from / 8 = leb-false _ _ low in
+          kept (before-filled (a / 8) before) (between-not a (λ l h. omega (arith, before, l)))
 
 -- ---- what the map has
 
@@ -115,7 +94,7 @@ module _ (from n : ℕ) (old : List ℕ) where
 
   -- a range that goes past its end
   pub range-past : length old * 8 < from + n → has_range old from n ≡ false
-  range-past past = rw (lt-leb (from + n) (length old * 8) past) (and_none (leb (length old) longest_map))
+  range-past past = rw (lt-leb (from + n) (length old * 8) past) (and-false (leb (length old) longest_map))
 
   -- what the map does not have
   pub range-not : has_range old from n ≡ false → WithRange from n old old
@@ -123,7 +102,7 @@ module _ (from n : ℕ) (old : List ℕ) where
     sized = refl;
     bits =
         λ a. ap (λ (t : Bool). t || marked old a)
-        (sym (ap (λ (t : Bool). between from (from + n) a && t) e ∙ and_none (between from (from + n) a)));
+        (sym (ap (λ (t : Bool). between from (from + n) a && t) e ∙ and-false (between from (from + n) a)));
   }
 
   -- what it has

@@ -3,50 +3,32 @@
 use mathlib.Core.Bool.{Bool, true, false}
 use borrow.Author.Tests.{ltb-true, ltb-false}
 use lib.Dec.{ltb}
-use mathlib.Core.Path.{◌≡◌, refl, sym, ap, ◌∙◌}
-use mathlib.Core.List.{List, [], ◌∷◌}
+use mathlib.Core.Path.{◌≡◌, refl, ap, ◌∙◌, subst}
+use mathlib.Core.List.{List}
 use Prim.Native.Nat.{ℕ, zero, suc, ◌+◌, ◌*◌, ◌<◌, ◌≤◌}
 use native.Mathlib.Nat.{mul_comm, add_comm}
-use native.Mathlib.Numerals.{add-one}
 use native.Mathlib.Omega.{arith}
 use lib.Count.{ones, ones_cat, ones-le}
 use lib.ListN.{length, get_or, drop, drop_of_length-le}
-use lib.Seq.{drop-cons}
 use Rattle.little_endian.specs.Bytes.{Bytes, number_at}
 use Rattle.little_endian.proofs.Numbers.{number_past}
+use Rattle.std.proofs.lemmas.List.{get_or_default}
+use Rattle.std.proofs.lemmas.List.Sums.{sum_by-drop_more, sum_by-le}
 use Rattle.known_bits.specs.Known.{count_of}
-
-pub number-quarters : (at : ℕ) (b : List ℕ) → number_at 8 at b ≡ number_at 4 at b + 4294967296 * number_at 4 (at + 4) b
-unfolding number_at
-number-quarters at b =
-    let two : at + 1 + 1 ≡ at + 2 = omega arith in
-    let three : at + 2 + 1 ≡ at + 3 = omega arith in
-    let four : at + 3 + 1 ≡ at + 4 = omega arith in
-    rw (two, three, four) (omega arith)
 
 -- a byte in front of a number
 ones-byte : (x n : ℕ) → x < 256 → ones (x + 256 * n) ≡ ones n + ones x
 ones-byte x n small = ap ones (add_comm x (256 * n) ∙ ap (λ (m : ℕ). m + x) (mul_comm 256 n)) ∙ ones_cat 8 n x small
 
--- the first byte of the bytes from a place on
-count-first : (b : List ℕ) (at : ℕ) → at < length b → count_of (drop at b) ≡ ones (get_or b at 0) + count_of (drop (at + 1) b)
-unfolding count_of
-count-first b at inside = ap count_of (drop-cons b at 0 inside) ∙ ap (λ (n : ℕ). ones (get_or b at 0) + count_of (drop n b)) (sym (add-one at))
-
 -- past the end there is nothing to count
-pub count_past : (b : List ℕ) (at : ℕ) → length b ≤ at → count_of (drop at b) ≡ 0
-unfolding count_of
+count_past : (b : List ℕ) (at : ℕ) → length b ≤ at → count_of (drop at b) ≡ 0
 count_past b at past = ap count_of (drop_of_length-le b {i = at} past)
-
-no_ones : (n : ℕ) → n ≡ 0 → ones n ≡ 0
-unfolding ones
-no_ones n e = ap ones e
 
 module _ (b : List ℕ) (bytes : Bytes b) where
   -- so many bytes from a place on, and those behind them
-  pub count-from : (count at : ℕ) → ones (number_at count at b) + count_of (drop (at + count) b) ≡ count_of (drop at b)
+  count-from : (count at : ℕ) → ones (number_at count at b) + count_of (drop (at + count) b) ≡ count_of (drop at b)
   unfolding number_at
-  count-from zero at = let here : at + 0 ≡ at = omega arith in rw here (omega (arith, no_ones 0 refl))
+  count-from zero at = let here : at + 0 ≡ at = omega arith in rw here (omega (arith, ones-le 0 0 (omega arith)))
   count-from (suc count) at = go (ltb at (length b)) refl (count-from count (at + 1))
     where
       go : (t : Bool) → ltb at (length b) ≡ t
@@ -54,14 +36,17 @@ module _ (b : List ℕ) (bytes : Bytes b) where
           → ones (get_or b at 0 + 256 * number_at count (at + 1) b) + count_of (drop (at + suc count) b) ≡ count_of (drop at b)
       go true e more =
           let next : at + suc count ≡ at + 1 + count = omega arith in
-          rw next (omega (arith, more, ones-byte (get_or b at 0) (number_at count (at + 1) b) (bytes at), count-first b at (ltb-true _ _ e)))
+          rw next (omega (arith, more, ones-byte (get_or b at 0) (number_at count (at + 1) b) (bytes at), sum_by-drop_more ones b at 0 (ltb-true _ _ e)))
       go false e more =
           let past : length b ≤ at = ltb-false _ _ e in
           let none : get_or b at 0 + 256 * number_at count (at + 1) b ≡ 0 = number_past (suc count) at b past in
-          omega (arith, no_ones _ none, count_past b at past, count_past b (at + suc count) (omega (arith, past)))
+          omega (arith, ap ones none, ones-le 0 0 (omega arith), count_past b at past, count_past b (at + suc count) (omega (arith, past)))
 
--- no more than there are
-pub count_most : (map : List ℕ) → Bytes map → count_of map ≤ length map * 8
-unfolding count_of
-count_most [] bytes = omega arith
-count_most (b ∷ map) bytes = omega (arith, ones-le 8 b (bytes 0), count_most map (λ i. bytes (suc i)))
+  -- the bytes of a word are all that its number has
+  pub word-count : length b ≤ 8 → ones (number_at 8 0 b) ≡ count_of b
+  word-count short = omega (arith, count-from 8 0, count_past b 8 short)
+
+  -- no more than there are
+  pub count-most : count_of b ≤ length b * 8
+  count-most =
+      sum_by-le ones 8 b (λ i d inside. ones-le 8 (get_or b i d) (subst (λ (x : ℕ). x < 256) (get_or_default b i 0 d inside) (bytes i)))

@@ -1,6 +1,6 @@
 -- Known bits: a bit for each byte of a region, the low bit of each byte first, set where the byte is known (document 02, T-09).
 -- Assumes nothing.
-use Rattle.std.specs.Prelude.{Bool, cond, ◌&&◌, ◌||◌, List, [], ◌∷◌, ◌≡◌, ℕ, zero, suc, ◌+◌, ◌-◌, ◌*◌, ◌/◌, ◌<◌, eqb, leb, ltb, length, get_or, drop}
+use Rattle.std.specs.Prelude.{Bool, cond, ◌&&◌, ◌||◌, List, [], ◌∷◌, ◌≡◌, ℕ, zero, suc, ◌+◌, ◌-◌, ◌*◌, ◌/◌, ◌<◌, eqb, leb, ltb, length, get_or, drop, sum_by}
 use Rattle.std.specs.Int.Count.{ones}
 use Rattle.address_set.specs.Bits.{marked}
 
@@ -10,10 +10,9 @@ use Rattle.address_set.specs.Bits.{marked}
 abbrev pub longest_map : ℕ
 longest_map = 32768
 
--- how many bits of a map are set
-unfoldable pub count_of : List ℕ → ℕ
-count_of [] = 0
-count_of (b ∷ map) = ones b + count_of map
+-- how many bits of a map are set: the ones of its bytes
+abbrev pub count_of : List ℕ → ℕ
+count_of map = sum_by ones map
 
 -- and how many of a map of bytes are not
 abbrev pub unset : List ℕ → ℕ
@@ -26,6 +25,10 @@ unknown_of map = cond (ltb longest_map (length map)) (longest_map * 8) (unset ma
 -- the addresses from one on, and below another
 abbrev pub between : (from end a : ℕ) → Bool
 between from end a = leb from a && ltb a end
+
+-- a map with the addresses from one on and below another besides
+abbrev pub Adds : (from end : ℕ) → List ℕ → List ℕ → Type 0
+Adds from end old new = (a : ℕ) → marked new a ≡ (between from end a || marked old a)
 
 -- the map is not longer than any region's, and has n addresses from one on
 abbrev pub has_range : List ℕ → (from n : ℕ) → Bool

@@ -4,11 +4,10 @@
 // its bytes are unknown as the greatest region has.
 #![tactic(auto)]
 
-ghost use Rattle.std.specs.Prelude.{◌≡◌, ◌||◌, ℕ, ◌*◌, ◌≤◌, ◌<◌, length};
-ghost use Rattle.std.specs.Int.Count.{ones};
-ghost use Rattle.address_set.specs.Bits.{marked};
-ghost use Rattle.little_endian.specs.Bytes.{number_at};
-ghost use Rattle.known_bits.specs.Known.{longest_map, count_of, unknown_of, between, WithRange};
+ghost use Rattle.std.specs.Prelude.{◌≡◌, ◌*◌, ◌≤◌, length};
+ghost use Rattle.known_bits.specs.Known.{longest_map, count_of, unknown_of, Adds, WithRange};
+
+use little_endian::Number;
 
 // The length of the longest map that a region has.
 const LONGEST: usize = 32768;
@@ -16,22 +15,12 @@ const LONGEST: usize = 32768;
 // The number of bytes of the greatest region, which is that of the longest map's bits.
 const GREATEST: usize = 262144;
 
-// The number of the eight bytes from a place on.
-fn word_at(map: &[u8], at: usize) -> u64
-    requires { at ≤ longest_map }
-    ensures { result ≡ number_at 8 at map.now }
+// How many bits of a word, at most eight bytes, are set.
+fn word_ones(word: &[u8]) -> usize
+    requires { length word.now ≤ 8 }
+    ensures { result ≡ count_of word.now }
 {
-    let low = little_endian::four_at(map, at);
-    let high = little_endian::four_at(map, at + 4);
-    low as u64 + 4294967296 * high as u64
-}
-
-// How many bits of the eight bytes from a place on are set.
-fn word_ones(map: &[u8], at: usize) -> usize
-    requires { at ≤ longest_map }
-    ensures { (result ≡ ones (number_at 8 at map.now)) × (result ≤ 64) }
-{
-    u64::count_ones(word_at(map, at)) as usize
+    u64::number_at(word, 0).count_ones() as usize
 }
 
 // How many bits of a map are set: the ones of each word of eight bytes are counted at once.
@@ -40,10 +29,8 @@ fn count(map: &[u8]) -> usize
     ensures { result ≡ count_of map.now }
 {
     let mut n = 0;
-    let mut at = 0;
-    while at < map.len() {
-        n = n + word_ones(map, at);
-        at = at + 8;
+    for word in map.chunks(8) {
+        n += word_ones(word);
     }
     n
 }
@@ -58,23 +45,19 @@ pub fn unknown(map: &[u8]) -> usize
     map.len() * 8 - count(map)
 }
 
-// Adds the next addresses of a range, eight at once where the range has all those of a byte, and says
-// where it goes on.
-fn mark_next(map: &mut [u8], at: usize, end: usize) -> usize
-    requires { (at < end) × (end ≤ length map.old * 8) × (length map.old ≤ longest_map) }
-    ensures { ((a : ℕ) → marked map.new a ≡ (between at result a || marked map.old a)) × (at < result) × (result ≤ end) }
+// Adds the addresses from one on and below another, one at a time.
+fn mark_each(map: &mut [u8], from: usize, end: usize)
+    requires ordered { from ≤ end }
+    requires within { end ≤ length map.old * 8 }
+    ensures { Adds from end map.old map.new }
 {
-    if at % 8 == 0 {
-        if 8 <= end - at {
-            map[at / 8] = 0xFF;
-            return at + 8;
-        }
+    for address in from..end {
+        address_set::mark(map, address);
     }
-    address_set::mark(map, at);
-    at + 1
 }
 
-// Adds n addresses from one on, if the map is not longer than any region's and has them.
+// Adds n addresses from one on, if the map is not longer than any region's and has them: those of whole
+// bytes a byte at a time, and those before and behind them each by itself.
 pub fn mark_range(map: &mut [u8], from: usize, n: usize)
     ensures { WithRange from n map.old map.new }
 {
@@ -82,15 +65,13 @@ pub fn mark_range(map: &mut [u8], from: usize, n: usize)
         return;
     }
     let places = map.len() * 8;
-    if places < from {
-        return;
-    }
-    if places - from < n {
+    if places < from || places - from < n {
         return;
     }
     let end = from + n;
-    let mut at = from;
-    while at < end {
-        at = mark_next(map, at, end);
-    }
+    let first = end.min(from.next_multiple_of(8));
+    let last = first.max(end / 8 * 8);
+    mark_each(map, from, first);
+    map[first / 8..last / 8].fill(0xFF);
+    mark_each(map, last, end);
 }

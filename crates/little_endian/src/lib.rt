@@ -96,31 +96,3 @@ impl Number for u64 {
         store(&eight, at, out);
     }
 }
-
-// The number of the two bytes from a place on.
-pub fn two_at(bytes: &[u8], at: usize) -> u16
-    ensures { result ≡ number_at 2 at bytes.now }
-{
-    u16::number_at(bytes, at)
-}
-
-// The number of the four bytes from a place on.
-pub fn four_at(bytes: &[u8], at: usize) -> u32
-    ensures { result ≡ number_at 4 at bytes.now }
-{
-    u32::number_at(bytes, at)
-}
-
-// The two bytes of a number stored from a place on, if they fit there.
-pub fn store_two(n: u16, at: usize, out: &mut [u8])
-    ensures { out.new ≡ stored_at at (little_endian 2 n) out.old }
-{
-    n.store_at(at, out);
-}
-
-// The four bytes of a number stored from a place on, if they fit there.
-pub fn store_four(n: u32, at: usize, out: &mut [u8])
-    ensures { out.new ≡ stored_at at (little_endian 4 n) out.old }
-{
-    n.store_at(at, out);
-}

@@ -1,9 +1,7 @@
 -- What a message does in the loader modes (document 01, "The loader").
 -- Assumes nothing.
-use Rattle.std.specs.Prelude.{Bool, true, false, cond, not, ◌&&◌, List, [], ◌∷◌, ℕ, eqb, length, drop, replicate}
+use Rattle.std.specs.Prelude.{Bool, true, false, cond, not, ◌&&◌, Option, Some, None, List, [], ◌∷◌, ℕ, eqb, length, drop, replicate}
 use Rattle.flash.specs.Flash.{Written, write_of, range_of, starts_of}
-use Rattle.flash.specs.declared.RangeSum.{RangeSum}
-use Rattle.flash.specs.declared.RangeSum.TheVariants.{Outside, Sum}
 use Rattle.packet.specs.Packet.{acknowledgement_of, core_of, command_of, address_of, range_length_of}
 use Rattle.packet.specs.declared.Command.{Command}
 use Rattle.packet.specs.declared.Command.TheVariants.{Password, Erase, Write, RangeChecksum, Start, Unknown}
@@ -60,9 +58,9 @@ unfoldable pub write_done : Loader → List ℕ → List ℕ → Outcome
 write_done loader region core = write_said loader (write_of (drop 5 core) (address_of core) region)
 
 -- the reply to a range checksum: the checksum, or message 0x01
-abbrev pub range_reply : RangeSum → Reply
-range_reply Outside = Message 0x01
-range_reply (Sum sum) = Data sum
+abbrev pub range_reply : Option ℕ → Reply
+range_reply None = Message 0x01
+range_reply (Some sum) = Data sum
 
 -- range checksum: of so many bytes from the address on
 unfoldable pub range_done : Loader → List ℕ → List ℕ → Outcome

@@ -5,14 +5,25 @@
 
 mod obey;
 
-ghost use Rattle.std.specs.Prelude.{◌≡◌};
-ghost use Rattle.loader.specs.Loader.{outcome, is_application, succeeded_of, received_of};
+ghost use Rattle.std.specs.Prelude.{◌≡◌, ◌∷◌, ◌≤◌, length};
+ghost use Rattle.packet.specs.Packet.{packet_of};
+ghost use Rattle.loader.specs.Loader.{outcome, succeeded_of, received_of};
 ghost use Rattle.loader.specs.Reply.{bytes_of, placed, placed_of};
 
+pub use obey::holds_back;
 use obey::obey;
-pub use obey::{behind, holds_back};
 
-#[derive(Clone, Copy)]
+// The message that asks whether firmware or loader runs, and the answer that the loader does.
+pub const STATUS: u8 = 0x31;
+
+const LOADER_RUNS: u8 = 0x01;
+
+// What the cores of replies begin with.
+const MESSAGE: u8 = 0x3B;
+
+const DATA: u8 = 0x3A;
+
+#[derive(Clone, Copy, PartialEq, Eq)]
 pub enum Mode {
     Application,
     Locked,
@@ -39,49 +50,34 @@ pub enum Reply {
     Data(u16),
 }
 
-// What a message leaves of the loader's part of the state, and the reply to it.
+// What a message leaves of the loader's part of the state, handed back by value, and the reply to it.
 #[derive(Clone, Copy)]
 pub struct Received {
     pub loader: Loader,
     pub reply: Reply,
 }
 
-// Whether the mode is application.
-pub fn in_application(mode: Mode) -> bool
-    ensures { result ≡ is_application mode }
-{
-    match mode {
-        Mode::Application => true,
-        Mode::Locked => false,
-        Mode::Unlocked => false,
-    }
-}
-
 // Whether a reply says success.
 pub fn succeeded(reply: Reply) -> bool
     ensures { result ≡ succeeded_of reply }
 {
-    match reply {
-        Reply::Nothing => true,
-        Reply::Byte(_) => false,
-        Reply::Message(message) => message == 0,
-        Reply::Data(_) => true,
-    }
+    matches!(reply, Reply::Nothing | Reply::Message(0) | Reply::Data(_))
 }
 
 // One message in a loader mode. In application mode the card hands the loader none; a loader that is
 // given one there all the same obeys what a locked one does.
+#[tactic(auto, unfolding(crate::specs::Loader::received_of, region::specs::Same::same))]
 pub fn receive(loader: Loader, region: &mut [u8], password: &[u8], message: &[u8]) -> Received
     ensures { outcome result.loader region.new result.reply ≡ received_of loader region.old password.now message.now }
 {
-    if region::same(message, &[0x31]) {
+    if message == [STATUS].as_slice() {
         return Received {
             loader,
-            reply: Reply::Byte(0x01),
+            reply: Reply::Byte(LOADER_RUNS),
         };
     }
     let acknowledgement = packet::acknowledgement(message);
-    if acknowledgement != 0x00 {
+    if acknowledgement != packet::ACKNOWLEDGED {
         return Received {
             loader,
             reply: Reply::Byte(acknowledgement),
@@ -90,29 +86,20 @@ pub fn receive(loader: Loader, region: &mut [u8], password: &[u8], message: &[u8
     obey(loader, region, password, packet::core(message))
 }
 
-// 0x00 and the packet around a core of two bytes, over the front of a buffer.
-fn put_message(message: u8, out: &mut [u8]) -> usize
-    ensures { placed result out.new ≡ placed_of (bytes_of (Reply.Message message)) out.old }
+// 0x00 and the packet around a core of at most three bytes, over the front of a buffer.
+fn put_packet(core: &[u8], out: &mut [u8]) -> usize
+    requires { (1 ≤ length core.now) × (length core.now ≤ 3) }
+    ensures { placed result out.new ≡ placed_of (0x00 ∷ packet_of core.now) out.old }
 {
-    let mut bytes = [0u8; 8];
-    packet::write(&[0x3B, message], &mut bytes[1..]);
-    little_endian::store(&bytes, 0, out);
-    8
-}
-
-// 0x00 and the packet around a core of three bytes, over the front of a buffer.
-fn put_data(sum: u16, out: &mut [u8]) -> usize
-    ensures { placed result out.new ≡ placed_of (bytes_of (Reply.Data sum)) out.old }
-{
-    let low = (sum % 256) as u8;
-    let high = (sum / 256 % 256) as u8;
-    let mut bytes = [0u8; 9];
-    packet::write(&[0x3A, low, high], &mut bytes[1..]);
-    little_endian::store(&bytes, 0, out);
-    9
+    let mut bytes = [packet::ACKNOWLEDGED; 9];
+    let n = core.len() + 6;
+    packet::write(core, &mut bytes[1..n]);
+    little_endian::store(&bytes[..n], 0, out);
+    n
 }
 
 // The bytes of a reply over the front of a buffer that has the room, and their number.
+#[tactic(auto, unfolding(crate::specs::Reply::bytes_of))]
 pub fn put(reply: Reply, out: &mut [u8]) -> usize
     ensures { placed result out.new ≡ placed_of (bytes_of reply) out.old }
 {
@@ -122,7 +109,10 @@ pub fn put(reply: Reply, out: &mut [u8]) -> usize
             little_endian::store(&[byte], 0, out);
             1
         }
-        Reply::Message(message) => put_message(message, out),
-        Reply::Data(sum) => put_data(sum, out),
+        Reply::Message(message) => put_packet(&[MESSAGE, message], out),
+        Reply::Data(sum) => {
+            let [low, high] = sum.to_le_bytes();
+            put_packet(&[DATA, low, high], out)
+        }
     }
 }

@@ -7,14 +7,32 @@
 ghost use Rattle.std.specs.Prelude.{◌≡◌, ◌+◌, ◌<◌, ◌≤◌, eqb, length};
 ghost use Rattle.crc.specs.Crc.{checksum_of};
 ghost use Rattle.little_endian.specs.Bytes.{stored_at};
-ghost use Rattle.packet.specs.Packet.{core_length, core_of, carried, acknowledgement_of, in_row, command_of};
+ghost use Rattle.packet.specs.Packet.{core_length, core_of, carried, acknowledgement_of, command_of};
 ghost use Rattle.packet.specs.Packet.{address_of, range_length_of, packet_of, written, write_of};
+
+use little_endian::Number;
 
 // The greatest core length.
 const LONGEST_CORE: usize = 261;
 
+// The byte that every packet begins with.
+const HEADER: u8 = 0x80;
+
+// What answers a message without fault, and its faults: the bytes themselves, since they go onto the wire as they are.
+pub const ACKNOWLEDGED: u8 = 0x00;
+
+const HEADER_WRONG: u8 = 0x51;
+
+const CHECKSUM_WRONG: u8 = 0x52;
+
+const CORE_EMPTY: u8 = 0x53;
+
+const CORE_TOO_LONG: u8 = 0x54;
+
+const LENGTH_WRONG: u8 = 0x55;
+
 // The rows of document 01's table of commands; Unknown is every other code or core length.
-#[derive(Clone, Copy)]
+#[derive(Clone, Copy, PartialEq, Eq)]
 pub enum Command {
     Password,
     Erase,
@@ -28,150 +46,102 @@ pub enum Command {
 pub fn core_length(message: &[u8]) -> usize
     ensures { (result ≡ core_length message.now) × (result < 65536) }
 {
-    little_endian::two_at(message, 1) as usize
+    u16::number_at(message, 1) as usize
 }
 
 // The core of a message, as far as the message goes.
 pub fn core(message: &[u8]) -> &[u8]
     ensures { result.now ≡ core_of message.now }
 {
-    let held = message.len();
-    if held < 3 {
-        return &message[held..];
-    }
-    let end = 3 + core_length(message);
-    if held < end {
-        return &message[3..];
-    }
-    &message[3..end]
+    byte_parts::front(byte_parts::behind(message, 3), core_length(message))
 }
 
-// Whether a message that is as long as it states carries the checksum of its core.
+// Whether a message carries the checksum of its core.
 fn sum_right(message: &[u8]) -> bool
-    requires { length message.now ≡ core_length message.now + 5 }
     ensures { result ≡ eqb (carried message.now) (checksum_of (core_of message.now)) }
 {
-    let end = 3 + core_length(message);
-    let sum = crc::checksum(crc::START, &message[3..end]);
-    little_endian::two_at(message, end) == sum
+    u16::number_at(message, 3 + core_length(message)) == crc::checksum(crc::START, core(message))
 }
 
-// The byte that answers a message: its first fault, or 0x00.
+// The byte that answers a message: its first fault, or `ACKNOWLEDGED`.
+#[tactic(auto, unfolding(crate::specs::Packet::acknowledgement_of))]
 pub fn acknowledgement(message: &[u8]) -> u8
     ensures { result ≡ acknowledgement_of message.now }
 {
-    if message.len() == 0 {
-        return 0x51;
-    }
-    if message[0] != 0x80 {
-        return 0x51;
+    if message.first() != Some(&HEADER) {
+        return HEADER_WRONG;
     }
     if message.len() < 3 {
-        return 0x55;
+        return LENGTH_WRONG;
     }
     let stated = core_length(message);
     if stated == 0 {
-        return 0x53;
+        return CORE_EMPTY;
     }
     if LONGEST_CORE < stated {
-        return 0x54;
+        return CORE_TOO_LONG;
     }
     if message.len() != stated + 5 {
-        return 0x55;
+        return LENGTH_WRONG;
     }
     if !sum_right(message) {
-        return 0x52;
+        return CHECKSUM_WRONG;
     }
-    0x00
+    ACKNOWLEDGED
 }
 
-// Whether a core has a row's code, and a length from the row's least to its greatest.
-fn in_row(core: &[u8], code: u8, least: usize, greatest: usize) -> bool
-    ensures { result ≡ in_row core.now code least greatest }
-{
-    if little_endian::byte_at(core, 0) != code {
-        return false;
-    }
-    if core.len() < least {
-        return false;
-    }
-    if greatest < core.len() {
-        return false;
-    }
-    true
-}
-
-// The command of a core.
+// The command of a core: its code and its length pick the row of document 01's table.
+#[tactic(auto, unfolding(crate::specs::Packet::command_of, crate::specs::Packet::in_row))]
 pub fn command_of(core: &[u8]) -> Command
     ensures { result ≡ command_of core.now }
 {
-    if in_row(core, 0x21, 257, 257) {
-        return Command::Password;
+    match (little_endian::byte_at(core, 0), core.len()) {
+        (0x21, 257) => Command::Password,
+        (0x15, 1) => Command::Erase,
+        (0x20, 6..=261) => Command::Write,
+        (0x26, 7) => Command::RangeChecksum,
+        (0x27, 5) => Command::Start,
+        _ => Command::Unknown,
     }
-    if in_row(core, 0x15, 1, 1) {
-        return Command::Erase;
-    }
-    if in_row(core, 0x20, 6, 261) {
-        return Command::Write;
-    }
-    if in_row(core, 0x26, 7, 7) {
-        return Command::RangeChecksum;
-    }
-    if in_row(core, 0x27, 5, 5) {
-        return Command::Start;
-    }
-    Command::Unknown
 }
 
 // The address of a core: the four bytes after the code, low byte first.
 pub fn address(core: &[u8]) -> usize
     ensures { (result ≡ address_of core.now) × (result < 4294967296) }
 {
-    little_endian::four_at(core, 1) as usize
+    u32::number_at(core, 1) as usize
 }
 
 // The length that a range checksum's core asks for.
 pub fn range_length(core: &[u8]) -> usize
     ensures { (result ≡ range_length_of core.now) × (result < 65536) }
 {
-    little_endian::two_at(core, 5) as usize
+    u16::number_at(core, 5) as usize
 }
 
-// The core length that a packet states: 05 01 for a full block, where the vendor's page prints 09 00.
-fn stated(n: usize) -> u16
-    requires { n ≤ 261 }
-    ensures { result ≡ n }
-{
-    n as u16
-}
-
-// A packet around a core of at most 261 bytes, over the front of a buffer that has the room.
+// A packet around a core of at most 261 bytes, over the front of a buffer that has the room. The length of a full block
+// is stated as 05 01, where the vendor's page prints 09 00.
 fn wrap(core: &[u8], out: &mut [u8])
     requires { (length core.now ≤ 261) × (length core.now + 5 ≤ length out.old) }
     ensures { out.new ≡ stored_at 0 (packet_of core.now) out.old }
 {
     let n = core.len();
-    little_endian::store(&[0x80], 0, out);
-    little_endian::store_two(stated(n), 1, out);
+    little_endian::store(&[HEADER], 0, out);
+    (n as u16).store_at(1, out);
     little_endian::store(core, 3, out);
-    little_endian::store_two(crc::checksum(crc::START, core), 3 + n, out);
+    crc::checksum(crc::START, core).store_at(3 + n, out);
 }
 
 // A packet around a core, over the front of a buffer. The answer is false, and the buffer as it
-// was, if the core is not 1 to 261 bytes or the buffer is shorter than the packet.
+// was, if the core is not 1 to 261 bytes or the buffer is shorter than the packet. It stays a bool: no value goes with it.
+#[tactic(auto, unfolding(crate::specs::Packet::write_of))]
 pub fn write(core: &[u8], out: &mut [u8]) -> bool
     ensures { written result out.new ≡ write_of core.now out.old }
 {
     let n = core.len();
-    if n < 1 {
-        return false;
+    let fits = (1..=LONGEST_CORE).contains(&n) && n + 5 <= out.len();
+    if fits {
+        wrap(core, out);
     }
-    if LONGEST_CORE < n {
-        return false;
-    }
-    if out.len() < n + 5 {
-        return false;
-    }
-    wrap(core, out);
-    true
+    fits
 }

@@ -22,36 +22,34 @@ fn write_work(region: &[u8], core: &[u8]) -> usize
         ≡ cond (allows_of (drop 5 core.now) (address_of core.now) region.now)
         (length (drop 5 core.now)) 0 }
 {
-    let data = loader::behind(core, 5);
+    let data = byte_parts::behind(core, 5);
     let allowed = flash::allows(data, packet::address(core), region);
     if allowed { data.len() } else { 0 }
 }
 
 // The work of a command that the lock does not hold back.
+#[tactic(auto, unfolding(crate::specs::Cut::command_work))]
 fn command_work(command: Command, region: &[u8], core: &[u8]) -> usize
     ensures { (loader : Loader) (password : List ℕ)
         → result ≡ work_by command core.now region.now
         (done_of command loader region.now password core.now) }
 {
     match command {
-        Command::Password => 0,
         Command::Erase => region.len() / BLOCK,
         Command::Write => write_work(region, core),
-        Command::RangeChecksum => 0,
-        Command::Start => 0,
-        Command::Unknown => 0,
+        Command::Password | Command::RangeChecksum | Command::Start | Command::Unknown => 0,
     }
 }
 
 // The work of the core of a packet without fault.
+#[tactic(auto, unfolding(loader::specs::Loader::obeyed_of))]
 fn core_work(loader: Loader, region: &[u8], core: &[u8]) -> usize
     ensures { (password : List ℕ)
         → result ≡ work_by (command_of core.now) core.now region.now
         (obeyed_of loader region.now password core.now) }
 {
     let command = packet::command_of(core);
-    let mode = loader.mode;
-    if loader::holds_back(mode, command) {
+    if loader::holds_back(loader.mode, command) {
         return 0;
     }
     command_work(command, region, core)
@@ -59,56 +57,38 @@ fn core_work(loader: Loader, region: &[u8], core: &[u8]) -> usize
 
 // The work of a message, the last place at which a power cut can meet it, judged without doing it. The
 // password decides nothing of it.
+#[tactic(auto, unfolding(crate::specs::Cut::work_of, loader::specs::Loader::received_of, region::specs::Same::same))]
 pub fn work(loader: Loader, region: &[u8], message: &[u8]) -> usize
     ensures { (password : List ℕ) → result ≡ work_of loader region.now password message.now }
 {
-    if region::same(message, &[0x31]) {
-        return 0;
-    }
-    if packet::acknowledgement(message) != 0x00 {
+    let asks = message == [loader::STATUS].as_slice();
+    if asks || packet::acknowledgement(message) != packet::ACKNOWLEDGED {
         return 0;
     }
     core_work(loader, region, packet::core(message))
-}
-
-// The first n bytes, or all if there are fewer.
-fn front(bytes: &[u8], n: usize) -> &[u8]
-    ensures { result.now ≡ take n bytes.now }
-{
-    if bytes.len() < n {
-        return &bytes[0..];
-    }
-    &bytes[..n]
 }
 
 // The first blocks of 4,096 become 0xFF, if the region has so many.
 fn erase_blocks(blocks: usize, region: &mut [u8])
     ensures { region.new ≡ stored_at 0 (replicate (blocks * 4096) 0xFF) region.old }
 {
-    if region.len() / BLOCK < blocks {
-        return;
+    if blocks <= region.len() / BLOCK {
+        region[..blocks * BLOCK].fill(0xFF);
     }
-    let end = blocks * BLOCK;
-    region::fill(&mut region[..end], 0xFF);
 }
 
 // So much of a command's work is done.
+#[tactic(auto, unfolding(crate::specs::Cut::left_by))]
 fn leave_part(command: Command, core: &[u8], place: usize, region: &mut [u8])
     ensures { region.new ≡ left_by command core.now place region.old }
 {
     match command {
-        Command::Password => {}
         Command::Erase => erase_blocks(place, region),
         Command::Write => {
-            little_endian::store(
-                front(loader::behind(core, 5), place),
-                packet::address(core),
-                region,
-            );
+            let data = byte_parts::front(byte_parts::behind(core, 5), place);
+            little_endian::store(data, packet::address(core), region);
         }
-        Command::RangeChecksum => {}
-        Command::Start => {}
-        Command::Unknown => {}
+        Command::Password | Command::RangeChecksum | Command::Start | Command::Unknown => {}
     }
 }
 
@@ -121,18 +101,14 @@ pub fn leave(message: &[u8], place: usize, region: &mut [u8])
 }
 
 // The loader's part of the state behind a restart.
+#[tactic(auto, unfolding(crate::specs::Cut::restarted_of))]
 pub fn restarted(loader: Loader, region: &[u8]) -> Loader
     ensures { result ≡ restarted_of loader region.now }
 {
-    let expected = loader.expected;
-    if crc::checksum(crc::START, region) == expected {
-        return Loader {
-            mode: Mode::Application,
-            expected,
-        };
-    }
-    Loader {
-        mode: Mode::Locked,
-        expected,
-    }
+    let mode = if crc::checksum(crc::START, region) == loader.expected {
+        Mode::Application
+    } else {
+        Mode::Locked
+    };
+    Loader { mode, ..loader }
 }

@@ -5,6 +5,7 @@ ghost use Rattle.record_layout.specs.Layout.{status_values, security_values, dev
 
 use sensor_values::{BoardStatus, Device, NetworkModule, SecurityStatus};
 
+#[tactic(auto, unfolding(crate::specs::Layout::status_values))]
 pub fn status(s: BoardStatus, out: &mut [u8])
     ensures { out.new ≡ stored_at 0 (status_values s) out.old }
 {
@@ -21,19 +22,18 @@ pub fn status(s: BoardStatus, out: &mut [u8])
     little_endian::store(&new, 0, out);
 }
 
+#[tactic(auto, unfolding(crate::specs::Layout::security_values))]
 pub fn security(s: SecurityStatus, out: &mut [u8])
     ensures { out.new ≡ stored_at 8 (security_values s) out.old }
 {
-    let one = s.flash1;
-    let two = s.flash2;
     let new = [
         s.spi_device,
-        one.recovery,
-        one.mode,
-        one.write_enable,
-        two.recovery,
-        two.mode,
-        two.write_enable,
+        s.flash1.recovery,
+        s.flash1.mode,
+        s.flash1.write_enable,
+        s.flash2.recovery,
+        s.flash2.mode,
+        s.flash2.write_enable,
         s.authentication,
         s.jtag,
     ];
@@ -44,36 +44,34 @@ pub fn device(d: Device, at: usize, out: &mut [u8])
     requires { at + 17 ≤ length out.old }
     ensures { out.new ≡ stored_at at (device_values d) out.old }
 {
-    let status = d.status;
-    let counters = d.errors;
     let front = [
-        status.done,
-        status.init_b,
-        status.error_out,
-        status.error_status,
-        status.keep_alive,
+        d.status.done,
+        d.status.init_b,
+        d.status.error_out,
+        d.status.error_status,
+        d.status.keep_alive,
         temperature::to_byte(d.fpga_temperature),
         temperature::to_byte(d.hbm_temperature),
     ];
     little_endian::store(&front, at, out);
-    little_endian::store(&sensor_writer::error_bytes(counters), at + 7, out);
+    little_endian::store(&sensor_writer::error_bytes(d.errors), at + 7, out);
 }
 
+#[tactic(auto, unfolding(crate::specs::Layout::module_values))]
 pub fn module(m: NetworkModule, at: usize, out: &mut [u8])
     ensures { out.new ≡ stored_at at (module_values m) out.old }
 {
-    let status = m.status;
     let new = [
         temperature::to_byte(m.temperature),
-        status.present,
-        status.interrupt,
-        status.low_power,
-        status.rate_select,
-        status.rx_loss,
-        status.tx_disable,
-        status.tx_fault,
-        status.power_enable,
-        status.over_current,
+        m.status.present,
+        m.status.interrupt,
+        m.status.low_power,
+        m.status.rate_select,
+        m.status.rx_loss,
+        m.status.tx_disable,
+        m.status.tx_fault,
+        m.status.power_enable,
+        m.status.over_current,
     ];
     little_endian::store(&new, at, out);
 }

@@ -1,12 +1,16 @@
-// The parts of the values in 87 bytes.
+// The parts of the values in 87 bytes. A part that stands at several places asks that its bytes are inside, since it
+// takes them by index.
 ghost use Rattle.std.specs.Prelude.{◌≡◌, ◌+◌, ◌≤◌};
-ghost use Rattle.record_layout.specs.Reading.{status_in, security_in, sensors_in, device_status_in, device_in, module_status_in, module_in};
+ghost use Rattle.record_layout.specs.Reading.{status_in, flash_in, security_in, sensors_in};
+ghost use Rattle.record_layout.specs.Reading.{device_status_in, device_in, module_status_in, module_in};
 
+use little_endian::Number;
 use sensor_values::{
     BoardSensors, BoardStatus, Device, DeviceStatus, FlashControl, ModuleStatus, NetworkModule,
     SecurityStatus,
 };
 
+#[tactic(auto, unfolding(crate::specs::Reading::status_in))]
 pub fn status(bytes: &[u8; 87]) -> BoardStatus
     ensures { result ≡ status_in bytes.now }
 {
@@ -22,44 +26,42 @@ pub fn status(bytes: &[u8; 87]) -> BoardStatus
     }
 }
 
+// The control of a flash at a place.
+fn flash(bytes: &[u8; 87], at: usize) -> FlashControl
+    requires { at + 3 ≤ 87 }
+    ensures { result ≡ flash_in at bytes.now }
+{
+    FlashControl {
+        recovery: bytes[at],
+        mode: bytes[at + 1],
+        write_enable: bytes[at + 2],
+    }
+}
+
+#[tactic(auto, unfolding(crate::specs::Reading::security_in))]
 pub fn security(bytes: &[u8; 87]) -> SecurityStatus
     ensures { result ≡ security_in bytes.now }
 {
-    let flash1 = FlashControl {
-        recovery: bytes[9],
-        mode: bytes[10],
-        write_enable: bytes[11],
-    };
-    let flash2 = FlashControl {
-        recovery: bytes[12],
-        mode: bytes[13],
-        write_enable: bytes[14],
-    };
     SecurityStatus {
         spi_device: bytes[8],
-        flash1,
-        flash2,
+        flash1: flash(bytes, 9),
+        flash2: flash(bytes, 12),
         authentication: bytes[15],
         jtag: bytes[16],
     }
 }
 
+#[tactic(auto, unfolding(crate::specs::Reading::sensors_in))]
 pub fn sensors(bytes: &[u8; 87]) -> BoardSensors
     ensures { result ≡ sensors_in bytes.now }
 {
-    let inlet = temperature::from_byte(bytes[17]);
-    let outlet = temperature::from_byte(bytes[18]);
-    let input_3v3 = sensor_reader::input(bytes, 19);
-    let input_12v = sensor_reader::input(bytes, 23);
-    let input_aux = sensor_reader::input(bytes, 27);
-    let total_power = little_endian::two_at(bytes, 31);
     BoardSensors {
-        inlet,
-        outlet,
-        input_3v3,
-        input_12v,
-        input_aux,
-        total_power,
+        inlet: temperature::from_byte(bytes[17]),
+        outlet: temperature::from_byte(bytes[18]),
+        input_3v3: sensor_reader::input(bytes, 19),
+        input_12v: sensor_reader::input(bytes, 23),
+        input_aux: sensor_reader::input(bytes, 27),
+        total_power: u16::number_at(bytes, 31),
     }
 }
 
@@ -76,20 +78,17 @@ fn device_status(bytes: &[u8; 87], at: usize) -> DeviceStatus
     }
 }
 
+#[tactic(auto, unfolding(crate::specs::Reading::device_in))]
 pub fn device(bytes: &[u8; 87], at: u8) -> Device
     requires { at + 17 ≤ 87 }
     ensures { result ≡ device_in at bytes.now }
 {
-    let place = at as usize;
-    let status = device_status(bytes, place);
-    let fpga_temperature = temperature::from_byte(bytes[place + 5]);
-    let hbm_temperature = temperature::from_byte(bytes[place + 6]);
-    let errors = sensor_reader::errors(bytes, at + 7);
+    let place = usize::from(at);
     Device {
-        status,
-        fpga_temperature,
-        hbm_temperature,
-        errors,
+        status: device_status(bytes, place),
+        fpga_temperature: temperature::from_byte(bytes[place + 5]),
+        hbm_temperature: temperature::from_byte(bytes[place + 6]),
+        errors: sensor_reader::errors(bytes, at + 7),
     }
 }
 
@@ -110,14 +109,13 @@ fn module_status(bytes: &[u8; 87], at: usize) -> ModuleStatus
     }
 }
 
+#[tactic(auto, unfolding(crate::specs::Reading::module_in))]
 pub fn module(bytes: &[u8; 87], at: usize) -> NetworkModule
     requires { at + 10 ≤ 87 }
     ensures { result ≡ module_in at bytes.now }
 {
-    let temperature = temperature::from_byte(bytes[at]);
-    let status = module_status(bytes, at + 1);
     NetworkModule {
-        temperature,
-        status,
+        temperature: temperature::from_byte(bytes[at]),
+        status: module_status(bytes, at + 1),
     }
 }

@@ -3,9 +3,6 @@
 // of document 02, which says where each is judged. Every answer that refuses names one of these.
 #![tactic(auto)]
 
-ghost use Rattle.std.specs.Prelude.{◌≡◌};
-ghost use Rattle.refusal.specs.Refusal.{number_of};
-
 #[derive(Clone, Copy, PartialEq, Eq, Debug)]
 pub enum Refusal {
     // N is bad, or a region is not N long, or its known bits are not N/8.
@@ -94,11 +91,4 @@ impl From<Refusal> for Refused {
     fn from(refusal: Refusal) -> Refused {
         Refused { refusal, place: 0 }
     }
-}
-
-// The papers' number of a refusal.
-pub fn number(refusal: Refusal) -> u8
-    ensures { result ≡ number_of refusal }
-{
-    u8::from(refusal)
 }

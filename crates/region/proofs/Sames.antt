@@ -1,13 +1,10 @@
 -- The test of two lists is true exactly if they are one.
 -- Assumes nothing.
-use Prim.Native.Nat.{ℕ, ◌+◌, ◌≤◌, ◌<◌}
+use Prim.Native.Nat.{ℕ}
 use mathlib.Core.Path.{◌≡◌, refl, sym, ap, ◌∙◌}
 use mathlib.Core.List.{List, [], ◌∷◌}
-use mathlib.Core.Bool.{Bool, true, false, false≢true, ◌&&◌}
-use native.Mathlib.Numerals.{add-one}
+use mathlib.Core.Bool.{Bool, true, false, false≢true}
 use lib.Dec.{eqb}
-use lib.ListN.{length, get_or, drop, drop_of_length-le}
-use lib.Seq.{drop-cons}
 use borrow.Author.Tests.{eqb-true, eq-eqb}
 use Rattle.test_laws.proofs.Tests.{both}
 use Rattle.region.specs.Same.{same}
@@ -35,15 +32,3 @@ same_false l m n = go (same l m) refl
     go : (t : Bool) → same l m ≡ t → same l m ≡ false
     go true e = absurd (n (same-eq l m e))
     go false e = e
-
-module _ (l m : List ℕ) (i : ℕ) where
-  -- from a place inside both on: the bytes there, and what is behind them
-  pub same_next : i < length l → i < length m
-      → same (drop i l) (drop i m) ≡ eqb (get_or l i 0) (get_or m i 0) && same (drop (i + 1) l) (drop (i + 1) m)
-  unfolding same
-  same_next inl inm = rw (drop-cons l i 0, drop-cons m i 0, add-one)
-
-  -- from a place past both on
-  pub same-past : length l ≤ i → length m ≤ i → same (drop i l) (drop i m) ≡ true
-  unfolding same
-  same-past pastl pastm = rw (drop_of_length-le l pastl, drop_of_length-le m pastm)

@@ -3,9 +3,11 @@
 // input.
 #![tactic(auto)]
 
-use byte_parts::front;
-use little_endian::byte_at;
-use std::fmt::Write;
+ghost use Rattle.std.specs.Prelude.{length};
+ghost use Rattle.std.specs.Iterator.{at_most};
+
+use arrayvec::ArrayVec;
+use std::fmt::{Display, Write};
 use std::rt::HostRuntime;
 use std::{fmt, io, process, str};
 
@@ -14,8 +16,7 @@ const ROOM: usize = 256;
 
 #[derive(Drop)]
 pub struct Line {
-    pub bytes: [u8; 256],
-    pub held: usize,
+    held: ArrayVec<u8, ROOM>,
 }
 
 // What the tool asks of the system beside what std's traits name.
@@ -40,9 +41,7 @@ impl System for HostRuntime {
 // A line takes what is written to it, as far as it has room.
 impl fmt::Write for Line {
     fn write_str(&mut self, words: &str) -> fmt::Result {
-        for b in words.as_bytes() {
-            self.put(*b);
-        }
+        self.put(words.as_bytes());
         Ok(())
     }
 }
@@ -51,42 +50,43 @@ impl Line {
     // An empty line.
     pub fn new() -> Line {
         Line {
-            bytes: [0; 256],
-            held: 0,
+            held: ArrayVec::new(),
         }
     }
 
-    // Puts one byte more into the line.
-    fn put(&mut self, b: u8) {
-        if self.held < ROOM {
-            self.bytes[self.held] = b;
-            self.held += 1;
-        }
+    // Puts bytes behind what the line has.
+    fn put(&mut self, bytes: &[u8]) {
+        let fitting = bytes.len().min(self.held.remaining_capacity());
+        let _ = self.held.try_extend_from_slice(&bytes[..fitting]);
+    }
+
+    // The line with a value behind it, as it is shown.
+    fn shown<D: Display + Drop>(mut self, value: D) -> Line {
+        let _ = write!(self, "{value}");
+        self
+    }
+
+    // The line with bytes behind it.
+    fn bytes(mut self, bytes: &[u8]) -> Line {
+        self.put(bytes);
+        self
     }
 
     // The line with one byte more.
     pub fn byte(self, b: u8) -> Line {
-        let mut next = self;
-        next.put(b);
-        next
+        self.bytes(&[b])
     }
 
     // The line with words behind it.
-    pub fn text(self, words: &[u8]) -> Line {
-        let mut line = self;
-        for i in 0..words.len() {
-            line = line.byte(words[i]);
-        }
-        line
+    pub fn text(self, words: &str) -> Line {
+        self.bytes(words.as_bytes())
     }
 
     // The line with a name behind it that came from outside, without its control characters.
     pub fn name(self, words: &[u8]) -> Line {
         let mut line = self;
-        let mut before = 0;
-        for i in 0..words.len() {
-            line = line.byte(shown(before, words[i], byte_at(words, i + 1)));
-            before = words[i];
+        for b in Printable::of(words) {
+            line = line.byte(b);
         }
         line
     }
@@ -94,7 +94,7 @@ impl Line {
     // The line with a byte behind it so many times.
     pub fn repeat(self, b: u8, count: usize) -> Line {
         let mut line = self;
-        for _i in 0..count {
+        for _ in 0..count {
             line = line.byte(b);
         }
         line
@@ -102,59 +102,56 @@ impl Line {
 
     // The line with spaces behind it, up to a column.
     pub fn to(self, column: usize) -> Line {
-        let missing = less(column, self.held);
+        let missing = column.saturating_sub(self.held.len());
         self.repeat(b' ', missing)
     }
 
     // The line with a number behind it.
     pub fn decimal(self, n: usize) -> Line {
-        self.padded(n, 1)
+        self.shown(n)
     }
 
     // The line with a number behind it in at least so many digits.
     pub fn padded(self, n: usize, least: usize) -> Line {
-        let digits = decimal_digits(n);
-        self.repeat(b'0', less(least, digits.held))
-            .text(digits.words())
+        self.shown(format_args!("{n:0least$}"))
     }
 
     // The line with a number behind it whose last digit stands before a column.
     pub fn right(self, n: usize, column: usize) -> Line {
-        let digits = decimal_digits(n);
-        self.to(less(column, digits.held)).text(digits.words())
+        let width = column.saturating_sub(self.held.len());
+        self.shown(format_args!("{n:width$}"))
     }
 
     // The line with a number of things behind it: `1 packet`, `2 packets`.
-    pub fn count(self, n: usize, thing: &[u8]) -> Line {
-        let line = self.decimal(n).text(b" ").text(thing);
-        if n == 1 {
-            return line;
-        }
-        line.text(b"s")
+    pub fn count(self, n: usize, thing: &str) -> Line {
+        let line = self.decimal(n).text(" ").text(thing);
+        if n == 1 { line } else { line.text("s") }
     }
 
     // The line with 0x and a number behind it in hexadecimal digits.
     pub fn hex(self, n: usize) -> Line {
-        self.text(b"0x").code(n, 1)
+        self.shown(format_args!("{n:#x}"))
     }
 
-    // The line with a number behind it in at least so many hexadecimal digits, at most 16.
-    pub fn code(self, n: usize, least: usize) -> Line {
-        let digits = hex_digits(n);
-        self.repeat(b'0', less(least.min(16), digits.held))
-            .text(digits.words())
+    // The line with a byte behind it in two hexadecimal digits.
+    pub fn code(self, byte: u8) -> Line {
+        self.shown(format_args!("{byte:02x}"))
+    }
+
+    // The line with a checksum behind it.
+    pub fn checksum(self, sum: u16) -> Line {
+        self.shown(format_args!("{sum:#06x}"))
     }
 
     // The line with the reason of a failed call behind it, in the system's words without its number.
-    pub fn reason(self, why: &io::Error) -> Line {
-        let mut whole = Line::new();
-        let _ = write!(whole, "{why}");
-        self.text(before_number(whole.words()))
+    pub fn reason(self, why: &impl Display) -> Line {
+        let whole = Line::new().shown(why);
+        self.bytes(before_number(whole.words()))
     }
 
     // What the line holds.
     pub fn words(&self) -> &[u8] {
-        front(&self.bytes, self.held)
+        self.held.as_slice()
     }
 
     // Prints the line to standard output.
@@ -170,20 +167,6 @@ impl Line {
     }
 }
 
-// The digits of a number, for which a line has room.
-fn decimal_digits(n: usize) -> Line {
-    let mut digits = Line::new();
-    let _ = write!(digits, "{n}");
-    digits
-}
-
-// The hexadecimal digits of a number.
-fn hex_digits(n: usize) -> Line {
-    let mut digits = Line::new();
-    let _ = write!(digits, "{n:x}");
-    digits
-}
-
 // The words of a reason before the number that std writes behind those of the system.
 fn before_number(words: &[u8]) -> &[u8] {
     match str::from_utf8(words) {
@@ -195,37 +178,44 @@ fn before_number(words: &[u8]) -> &[u8] {
     }
 }
 
-// Whether a byte makes a control character together with 0xc2 before it.
-fn ends_control(b: u8) -> bool {
-    match b {
-        0x80..=0x9F => true,
-        _ => false,
+// The bytes of a name from outside as they may be sent to a terminal.
+#[derive(Drop)]
+pub struct Printable<'a> {
+    before: u8,
+    rest: &'a [u8],
+}
+
+impl<'a> Printable<'a> {
+    pub fn of(name: &'a [u8]) -> Printable<'a> {
+        Printable {
+            before: 0,
+            rest: name,
+        }
     }
 }
 
-// Whether a byte from 0x80 to 0x9f is a control character after this one, and no later byte of a letter.
-fn begins_no_letter(before: u8) -> bool {
-    match before {
-        0x00..=0x7F | 0xC2 => true,
-        _ => false,
+impl<'a> Iterator for Printable<'a> {
+    type Item = u8;
+
+    ghost remaining = { λ p. at_most (length p.rest.now) };
+
+    fn next(&mut self) -> Option<u8> {
+        let (&b, rest) = self.rest.split_first()?;
+        let before = self.before;
+        let after = rest.first().copied().unwrap_or(0);
+        self.before = b;
+        self.rest = rest;
+        Some(cleaned(before, b, after))
     }
 }
 
-// A byte of a name as it may be sent to a terminal, by its neighbours: a question mark for a control character. In UTF-8
-// those above 0x7f are 0xc2 and a byte from 0x80 to 0x9f.
-pub fn shown(before: u8, b: u8, after: u8) -> u8 {
+// A byte of a name by its neighbours, a question mark for a control character. In UTF-8 those above 0x7f are 0xc2 and a
+// byte from 0x80 to 0x9f, which behind other bytes is a later one of a letter.
+fn cleaned(before: u8, b: u8, after: u8) -> u8 {
     match b {
         0x00..=0x1F | 0x7F => b'?',
-        0x80..=0x9F => if begins_no_letter(before) { b'?' } else { b },
-        0xC2 => if ends_control(after) { b'?' } else { b },
+        0x80..=0x9F if matches!(before, 0x00..=0x7F | 0xC2) => b'?',
+        0xC2 if matches!(after, 0x80..=0x9F) => b'?',
         _ => b,
     }
-}
-
-// The difference of two numbers, 0 where it would be below.
-fn less(a: usize, b: usize) -> usize {
-    if a < b {
-        return 0;
-    }
-    a - b
 }

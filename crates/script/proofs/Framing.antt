@@ -13,6 +13,9 @@ use lib.Seq.{length-take-le, take_all, take-append_seam, drop-append_seam}
 use Rattle.little_endian.specs.Bytes.{number_at, joined}
 use Rattle.region.proofs.Sames.{same-eq}
 use Rattle.test_laws.proofs.Tests.{on-cond}
+use Rattle.std.proofs.lemmas.Option.{none-some}
+use Rattle.std.specs.Option.{unwrap_or}
+use Rattle.std.specs.Prelude.{Option, Some, None}
 use Rattle.script.specs.Script.{head, headed, frame_length, front_of, Frames, packet_before, frames_up_to, frames_of, Framed, Cut}
 
 -- a head has five bytes
@@ -120,47 +123,43 @@ frames-again (p ∷ ps) rest framed ends =
 pub cut-unique : (bytes : List ℕ) (f : Frames) → Cut bytes f → frames_of bytes ≡ f
 cut-unique bytes f c = ap frames_of (sym c.joins) ∙ frames-again f.packets f.rest c.framed c.ends
 
--- a choice of 0, or not
-chosen : (test : Bool) (n : ℕ) → (n ≡ 0 → ⊥) → cond test 0 n ≡ 0 → test ≡ true
-chosen true n some e = refl
-chosen false n some e = absurd (some e)
+-- a choice of none, or not
+chosen : (test : Bool) (n : ℕ) → cond test None (Some n) ≡ None → test ≡ true
+chosen true n e = refl
+chosen false n e = absurd (none-some n (sym e))
 
-not_chosen : (test : Bool) (n : ℕ) → (cond test 0 n ≡ 0 → ⊥) → (cond test 0 n ≡ n) × (test ≡ false)
-not_chosen true n some = absurd (some refl)
-not_chosen false n some = (refl, refl)
+not_chosen : (test : Bool) (n k : ℕ) → cond test None (Some n) ≡ Some k → (k ≡ n) × (test ≡ false)
+not_chosen true n k e = absurd (none-some k e)
+not_chosen false n k e = (ap (λ (o : Option ℕ). unwrap_or o 0) (sym e), refl)
 
 module _ (bytes : List ℕ) where
-  -- the packet at the front is no longer than the bytes
-  pub front-short : front_of bytes ≤ length bytes
-  unfolding front_of
-  front-short =
-      let f = frame_length bytes in
-      on-cond (λ n. n ≤ length bytes) (ltb (length bytes) f) 0 f (λ _. omega arith) (λ e. ltb-false (length bytes) f e)
-
   -- no packet at the front: the bytes end inside it
-  pub front_cut : front_of bytes ≡ 0 → length bytes < frame_length bytes
+  pub front_cut : front_of bytes ≡ None → length bytes < frame_length bytes
   unfolding front_of
   front_cut e =
       let f = frame_length bytes in
-      ltb-true (length bytes) f (chosen (ltb (length bytes) f) f (λ z. omega (arith, z)) e)
+      ltb-true (length bytes) f (chosen (ltb (length bytes) f) f e)
 
   -- a packet at the front is as long as the framing says, and whole
-  pub front-whole : (front_of bytes ≡ 0 → ⊥) → (front_of bytes ≡ frame_length bytes) × (frame_length bytes ≤ length bytes)
+  pub front-whole : (k : ℕ) → front_of bytes ≡ Some k → (k ≡ frame_length bytes) × (frame_length bytes ≤ length bytes)
   unfolding front_of
-  front-whole some =
+  front-whole k e =
       let f = frame_length bytes in
-      let t = not_chosen (ltb (length bytes) f) f some in
+      let t = not_chosen (ltb (length bytes) f) f k e in
       (t.0, ltb-false (length bytes) f t.1)
+
+  -- and so no longer than the bytes
+  pub front-short : (k : ℕ) → front_of bytes ≡ Some k → k ≤ length bytes
+  front-short k e = let w = front-whole k e in omega (arith, w.0, w.1)
 
 -- the part of a list from a place to its end
 pub part-tail : (l : List ℕ) (at : ℕ) → take (length l - at) (drop at l) ≡ drop at l
 part-tail l at = take_all (length l - at) (drop at l) (rw (length-drop at l) (omega arith))
 
 -- a packet that is found at the front of that part
-pub front-inside : (l : List ℕ) (at k : ℕ) → at ≤ length l → k ≡ front_of (take (length l - at) (drop at l)) → (k ≡ 0 → ⊥)
+pub front-inside : (l : List ℕ) (at k : ℕ) → at ≤ length l → front_of (take (length l - at) (drop at l)) ≡ Some k
     → (k ≡ frame_length (drop at l)) × (at + k ≤ length l)
-front-inside l at k inside is some =
-    let found : k ≡ front_of (drop at l) = is ∙ ap front_of (part-tail l at) in
-    let w = front-whole (drop at l) (λ z. some (found ∙ z)) in
-    let fits : k ≤ length l - at = rw (found ∙ w.0, ← (length-drop at l)) w.1 in
-    (found ∙ w.0, omega arith)
+front-inside l at k inside is =
+    let w = front-whole (drop at l) k (ap front_of (sym (part-tail l at)) ∙ is) in
+    let fits : k ≤ length l - at = rw (w.0, ← (length-drop at l)) w.1 in
+    (w.0, omega arith)

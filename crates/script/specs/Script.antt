@@ -1,6 +1,6 @@
 -- Scripts and their framing (document 01, "Scripts, planner, checker").
 -- Assumes nothing.
-use Rattle.std.specs.Prelude.{Bool, cond, List, [], ◌∷◌, ◌++◌, ◌≡◌, ℕ, zero, suc, ◌+◌, ◌<◌, ltb, length, take, drop}
+use Rattle.std.specs.Prelude.{Bool, cond, Option, Some, None, List, [], ◌∷◌, ◌++◌, ◌≡◌, ℕ, zero, suc, ◌+◌, ◌<◌, ltb, length, take, drop}
 use Rattle.little_endian.specs.Bytes.{little_endian, joined}
 use Rattle.packet.specs.Packet.{core_length}
 use Rattle.region.specs.Same.{same}
@@ -25,9 +25,9 @@ headed bytes = same (take 5 bytes) head
 abbrev pub frame_length : List ℕ → ℕ
 frame_length bytes = 3 + core_length bytes + 2
 
--- the same, 0 if the bytes end inside it
-unfoldable pub front_of : List ℕ → ℕ
-front_of bytes = cond (ltb (length bytes) (frame_length bytes)) 0 (frame_length bytes)
+-- the same, none if the bytes end inside it
+unfoldable pub front_of : List ℕ → Option ℕ
+front_of bytes = cond (ltb (length bytes) (frame_length bytes)) None (Some (frame_length bytes))
 
 -- bytes cut into packets, and what is left: nothing, or the beginning of a packet
 pub record Frames : Type 0 where

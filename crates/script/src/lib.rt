@@ -6,37 +6,35 @@
 ghost use Rattle.std.specs.Prelude.{◌≡◌};
 ghost use Rattle.script.specs.Script.{head, headed, front_of};
 
+use little_endian::Number;
+
 // The version that a script states.
 const VERSION: u16 = 1;
 
 // The head that every script begins with.
+#[tactic(auto, unfolding(little_endian::specs::Bytes::stored_at))]
 pub fn head() -> [u8; 5]
     ensures { result ≡ head }
 {
     let mut bytes = [0u8; 5];
     little_endian::store(b"BSX", 0, &mut bytes);
-    little_endian::store_two(VERSION, 3, &mut bytes);
+    VERSION.store_at(3, &mut bytes);
     bytes
 }
 
 // Whether bytes begin with a script's head.
+#[tactic(auto, unfolding(crate::specs::Script::headed, region::specs::Same::same))]
 pub fn is_headed(bytes: &[u8]) -> bool
     ensures { result ≡ headed bytes.now }
 {
-    if bytes.len() < 5 {
-        return false;
-    }
-    let head = head();
-    region::same(&bytes[..5], &head)
+    bytes.starts_with(&head())
 }
 
-// The length of the packet that bytes begin with, 0 if they end inside it.
-pub fn front(bytes: &[u8]) -> usize
+// The length of the packet that bytes begin with, none if they end inside it.
+#[tactic(auto, unfolding(crate::specs::Script::front_of))]
+pub fn front(bytes: &[u8]) -> Option<usize>
     ensures { result ≡ front_of bytes.now }
 {
     let framed = packet::core_length(bytes) + 5;
-    if bytes.len() < framed {
-        return 0;
-    }
-    framed
+    (framed <= bytes.len()).then_some(framed)
 }

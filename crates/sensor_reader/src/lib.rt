@@ -2,197 +2,197 @@
 // document 004; and whether its reserved bits are 0. The rule of the values is not judged here.
 #![tactic(auto)]
 
-ghost use Rattle.std.specs.Prelude.{◌≡◌, ◌+◌, ◌≤◌};
-ghost use Rattle.sensor_values.specs.Reading.{status_of, security_of, device_status_of, module_status_of, input_of, sensors_of, errors_of};
-ghost use Rattle.sensor_values.specs.Reading.{device_of, module_of, record_of, reserved_zero};
+ghost use Rattle.std.specs.Prelude.{◌≡◌, ◌+◌, ◌≤◌, ◌<◌};
+ghost use Rattle.sensor_values.specs.Reading.{◌bits◌to◌, status_of, flash_of, security_of, device_status_of, module_status_of};
+ghost use Rattle.sensor_values.specs.Reading.{input_of, sensors_of, errors_of, device_of, module_of, record_of, reserved_zero};
 
+use little_endian::Number;
 use sensor_values::{
     BoardSensors, BoardStatus, Device, DeviceStatus, ErrorCounters, FlashControl, InputSensor,
     ModuleStatus, NetworkModule, SecurityStatus, SensorRecord,
 };
 
+// Some bits of a number, eight at most, named as the papers do: the highest, then the lowest.
+fn bits(n: u32, high: u32, low: u32) -> u8
+    requires ordered { low ≤ high }
+    requires byte { high < low + 8 }
+    requires inside { high < 32 }
+    ensures { result ≡ n bits high to low }
+{
+    ((n >> low) % 2u32.pow(high - low + 1)) as u8
+}
+
+#[tactic(auto, unfolding(sensor_values::specs::Reading::status_of))]
 fn status(n: u32) -> BoardStatus
     ensures { result ≡ status_of n }
 {
     BoardStatus {
-        tcrit: (n % 16) as u8,
-        power_good: ((n >> 4) % 16) as u8,
-        twarn: ((n >> 8) % 16) as u8,
-        hbm_cattrip: ((n >> 12) % 16) as u8,
-        module0_present: ((n >> 16) % 2) as u8,
-        module1_present: ((n >> 17) % 2) as u8,
-        aux_cable: ((n >> 18) % 2) as u8,
-        flash_writes: ((n >> 19) % 256) as u8,
+        tcrit: bits(n, 3, 0),
+        power_good: bits(n, 7, 4),
+        twarn: bits(n, 11, 8),
+        hbm_cattrip: bits(n, 15, 12),
+        module0_present: bits(n, 16, 16),
+        module1_present: bits(n, 17, 17),
+        aux_cable: bits(n, 18, 18),
+        flash_writes: bits(n, 26, 19),
     }
 }
 
+// The control of a flash, whose four bits begin at a place.
+fn flash(n: u32, low: u32) -> FlashControl
+    requires { low + 4 ≤ 32 }
+    ensures { result ≡ flash_of low n }
+{
+    FlashControl {
+        recovery: bits(n, low, low),
+        mode: bits(n, low + 2, low + 1),
+        write_enable: bits(n, low + 3, low + 3),
+    }
+}
+
+#[tactic(auto, unfolding(sensor_values::specs::Reading::security_of))]
 fn security(n: u32) -> SecurityStatus
     ensures { result ≡ security_of n }
 {
-    let one = FlashControl {
-        recovery: ((n >> 1) % 2) as u8,
-        mode: ((n >> 2) % 4) as u8,
-        write_enable: ((n >> 4) % 2) as u8,
-    };
-    let two = FlashControl {
-        recovery: ((n >> 6) % 2) as u8,
-        mode: ((n >> 7) % 4) as u8,
-        write_enable: ((n >> 9) % 2) as u8,
-    };
     SecurityStatus {
-        spi_device: (n % 2) as u8,
-        flash1: one,
-        flash2: two,
-        authentication: ((n >> 11) % 16) as u8,
-        jtag: ((n >> 15) % 2) as u8,
+        spi_device: bits(n, 0, 0),
+        flash1: flash(n, 1),
+        flash2: flash(n, 6),
+        authentication: bits(n, 14, 11),
+        jtag: bits(n, 15, 15),
     }
 }
 
+#[tactic(auto, unfolding(sensor_values::specs::Reading::device_status_of))]
 fn device_status(n: u8) -> DeviceStatus
     ensures { result ≡ device_status_of n }
 {
+    let n = u32::from(n);
     DeviceStatus {
-        done: n % 2,
-        init_b: (n >> 1) % 2,
-        error_out: (n >> 2) % 2,
-        error_status: (n >> 3) % 2,
-        keep_alive: (n >> 4) % 16,
+        done: bits(n, 0, 0),
+        init_b: bits(n, 1, 1),
+        error_out: bits(n, 2, 2),
+        error_status: bits(n, 3, 3),
+        keep_alive: bits(n, 7, 4),
     }
 }
 
+#[tactic(auto, unfolding(sensor_values::specs::Reading::module_status_of))]
 fn module_status(n: u16) -> ModuleStatus
     ensures { result ≡ module_status_of n }
 {
+    let n = u32::from(n);
     ModuleStatus {
-        present: (n % 2) as u8,
-        interrupt: ((n >> 1) % 2) as u8,
-        low_power: ((n >> 2) % 2) as u8,
-        rate_select: ((n >> 3) % 16) as u8,
-        rx_loss: ((n >> 7) % 4) as u8,
-        tx_disable: ((n >> 9) % 4) as u8,
-        tx_fault: ((n >> 11) % 4) as u8,
-        power_enable: ((n >> 13) % 2) as u8,
-        over_current: ((n >> 14) % 2) as u8,
+        present: bits(n, 0, 0),
+        interrupt: bits(n, 1, 1),
+        low_power: bits(n, 2, 2),
+        rate_select: bits(n, 6, 3),
+        rx_loss: bits(n, 8, 7),
+        tx_disable: bits(n, 10, 9),
+        tx_fault: bits(n, 12, 11),
+        power_enable: bits(n, 13, 13),
+        over_current: bits(n, 14, 14),
     }
 }
 
 // The input sensor at a place, for every layout of the values in which its 4 bytes stand so. The place is
 // a `u8`, so that no sum wraps and nothing is asked of callers.
+#[tactic(auto, unfolding(sensor_values::specs::Reading::input_of))]
 pub fn input(bytes: &[u8], at: u8) -> InputSensor
     ensures { result ≡ input_of at bytes.now }
 {
-    let place = at as usize;
-    let first = little_endian::two_at(bytes, place);
-    let second = little_endian::two_at(bytes, place + 2);
+    let at = usize::from(at);
     InputSensor {
-        current: first,
-        voltage: second,
+        current: u16::number_at(bytes, at),
+        voltage: u16::number_at(bytes, at + 2),
     }
 }
 
+#[tactic(auto, unfolding(sensor_values::specs::Reading::sensors_of))]
 fn sensors(bytes: &[u8]) -> BoardSensors
     ensures { result ≡ sensors_of bytes.now }
 {
-    let inlet = temperature::from_byte(little_endian::byte_at(bytes, 8));
-    let outlet = temperature::from_byte(little_endian::byte_at(bytes, 9));
-    let input_3v3 = input(bytes, 10);
-    let input_12v = input(bytes, 14);
-    let input_aux = input(bytes, 18);
-    let total_power = little_endian::two_at(bytes, 22);
     BoardSensors {
-        inlet,
-        outlet,
-        input_3v3,
-        input_12v,
-        input_aux,
-        total_power,
+        inlet: temperature::from_byte(little_endian::byte_at(bytes, 8)),
+        outlet: temperature::from_byte(little_endian::byte_at(bytes, 9)),
+        input_3v3: input(bytes, 10),
+        input_12v: input(bytes, 14),
+        input_aux: input(bytes, 18),
+        total_power: u16::number_at(bytes, 22),
     }
 }
 
 // A device's error counters at a place, in the same way.
+#[tactic(auto, unfolding(sensor_values::specs::Reading::errors_of))]
 pub fn errors(bytes: &[u8], at: u8) -> ErrorCounters
     ensures { result ≡ errors_of at bytes.now }
 {
-    let place = at as usize;
-    let ddr_uncorrectable = little_endian::two_at(bytes, place);
-    let ddr_correctable = little_endian::two_at(bytes, place + 2);
-    let pcie_uncorrectable = little_endian::two_at(bytes, place + 4);
-    let pcie_correctable = little_endian::four_at(bytes, place + 6);
+    let at = usize::from(at);
     ErrorCounters {
-        ddr_uncorrectable,
-        ddr_correctable,
-        pcie_uncorrectable,
-        pcie_correctable,
+        ddr_uncorrectable: u16::number_at(bytes, at),
+        ddr_correctable: u16::number_at(bytes, at + 2),
+        pcie_uncorrectable: u16::number_at(bytes, at + 4),
+        pcie_correctable: u32::number_at(bytes, at + 6),
     }
 }
 
+// `requires`: of the two places that it is called with, so that the sum is a `u8`.
+#[tactic(auto, unfolding(sensor_values::specs::Reading::device_of))]
 fn device(bytes: &[u8], at: u8) -> Device
     requires { at + 13 ≤ 64 }
     ensures { result ≡ device_of at bytes.now }
 {
-    let place = at as usize;
-    let status = device_status(little_endian::byte_at(bytes, place));
-    let fpga_temperature = temperature::from_byte(little_endian::byte_at(bytes, place + 1));
-    let hbm_temperature = temperature::from_byte(little_endian::byte_at(bytes, place + 2));
-    let errors = errors(bytes, at + 3);
+    let place = usize::from(at);
     Device {
-        status,
-        fpga_temperature,
-        hbm_temperature,
-        errors,
+        status: device_status(little_endian::byte_at(bytes, place)),
+        fpga_temperature: temperature::from_byte(little_endian::byte_at(bytes, place + 1)),
+        hbm_temperature: temperature::from_byte(little_endian::byte_at(bytes, place + 2)),
+        errors: errors(bytes, at + 3),
     }
 }
 
-fn module(bytes: &[u8], at: usize) -> NetworkModule
-    requires { at + 3 ≤ 64 }
+#[tactic(auto, unfolding(sensor_values::specs::Reading::module_of))]
+fn module(bytes: &[u8], at: u8) -> NetworkModule
     ensures { result ≡ module_of at bytes.now }
 {
-    let temperature = temperature::from_byte(little_endian::byte_at(bytes, at));
-    let status = module_status(little_endian::two_at(bytes, at + 1));
+    let at = usize::from(at);
     NetworkModule {
-        temperature,
-        status,
+        temperature: temperature::from_byte(little_endian::byte_at(bytes, at)),
+        status: module_status(u16::number_at(bytes, at + 1)),
     }
 }
 
 // The values in 64 bytes; a byte past the end counts as 0.
+#[tactic(auto, unfolding(sensor_values::specs::Reading::record_of))]
 pub fn values(bytes: &[u8]) -> SensorRecord
     ensures { result ≡ record_of bytes.now }
 {
-    let status = status(little_endian::four_at(bytes, 0));
-    let security = security(little_endian::four_at(bytes, 4));
-    let sensors = sensors(bytes);
-    let device1 = device(bytes, 24);
-    let device2 = device(bytes, 37);
-    let module0 = module(bytes, 50);
-    let module1 = module(bytes, 53);
     SensorRecord {
-        status,
-        security,
-        sensors,
-        device1,
-        device2,
-        module0,
-        module1,
+        status: status(u32::number_at(bytes, 0)),
+        security: security(u32::number_at(bytes, 4)),
+        sensors: sensors(bytes),
+        device1: device(bytes, 24),
+        device2: device(bytes, 37),
+        module0: module(bytes, 50),
+        module1: module(bytes, 53),
     }
 }
 
 // Whether every reserved bit is 0.
+#[tactic(auto, unfolding(sensor_values::specs::Reading::reserved_zero))]
 pub fn reserved_zero(bytes: &[u8]) -> bool
     ensures { result ≡ reserved_zero bytes.now }
 {
-    let status = little_endian::four_at(bytes, 0);
-    let security = little_endian::four_at(bytes, 4);
-    let lower = little_endian::two_at(bytes, 51);
-    let upper = little_endian::two_at(bytes, 54);
-    let first = little_endian::four_at(bytes, 56);
-    let second = little_endian::four_at(bytes, 60);
-    ((status >> 27) % 32 == 0)
-        & ((security >> 5) % 2 == 0)
-        & ((security >> 10) % 2 == 0)
-        & ((security >> 16) % 65536 == 0)
-        & ((lower >> 15) % 2 == 0)
-        & ((upper >> 15) % 2 == 0)
-        & (first == 0)
-        & (second == 0)
+    let status = u32::number_at(bytes, 0);
+    let security = u32::number_at(bytes, 4);
+    let lower = u32::from(u16::number_at(bytes, 51));
+    let upper = u32::from(u16::number_at(bytes, 54));
+    bits(status, 31, 27) == 0
+        && bits(security, 5, 5) == 0
+        && bits(security, 10, 10) == 0
+        && security >> 16 == 0
+        && bits(lower, 15, 15) == 0
+        && bits(upper, 15, 15) == 0
+        && u32::number_at(bytes, 56) == 0
+        && u32::number_at(bytes, 60) == 0
 }

@@ -1,16 +1,13 @@
 -- What the record's reader and writer answer and leave (document 01, "Sensor record", "Refusal numbers").
 -- Assumes nothing.
-use Rattle.std.specs.Prelude.{cond, not, List, ℕ, ltb, length}
+use Rattle.std.specs.Prelude.{cond, not, List, ℕ, ltb, length, Result, Ok, Err, ⊤}
 use Rattle.little_endian.specs.Bytes.{stored_at}
+use Rattle.refusal.specs.declared.Refusal.{Refusal}
 use Rattle.refusal.specs.Refusal.{number_of}
 use Rattle.sensor_values.specs.Layout.{bytes_of}
 use Rattle.sensor_values.specs.Rule.{sound}
 use Rattle.sensor_values.specs.Reading.{record_of, sound_bytes}
 use Rattle.sensor_values.specs.declared.SensorRecord.{SensorRecord}
-use Rattle.sensor_record.specs.declared.ReadRecord.{ReadRecord}
-use Rattle.sensor_record.specs.declared.ReadRecord.TheVariants as read
-use Rattle.sensor_record.specs.declared.WroteRecord.{WroteRecord}
-use Rattle.sensor_record.specs.declared.WroteRecord.TheVariants as wrote
 
 -- the reader's answer in document 01's terms: a refusal's number, or the record
 pub data Answer : Type 0 where
@@ -18,9 +15,9 @@ pub data Answer : Type 0 where
   held : SensorRecord → Answer
 
 -- what the reader answered, in these terms
-abbrev pub answered : ReadRecord → Answer
-answered (read.Refused why) = refused (number_of why)
-answered (read.Held r) = held r
+abbrev pub answered : Result SensorRecord Refusal → Answer
+answered (Err why) = refused (number_of why)
+answered (Ok r) = held r
 
 -- the reader: 17 for bytes that are not 64 or break the rule
 unfoldable pub read_of : List ℕ → Answer
@@ -35,9 +32,9 @@ abbrev pub output : ℕ → List ℕ → Output
 output refusal out = record { refusal = refusal; out = out }
 
 -- what the writer answered and left, in these terms
-abbrev pub outcome : WroteRecord → List ℕ → Output
-outcome (wrote.Refused why) out = output (number_of why) out
-outcome wrote.Written out = output 0 out
+abbrev pub outcome : Result ⊤ Refusal → List ℕ → Output
+outcome (Err why) out = output (number_of why) out
+outcome (Ok _) out = output 0 out
 
 -- the writer: 13 for an output under 64 bytes, 17 for a record that breaks the rule, else its bytes over the output's front
 unfoldable pub write_of : SensorRecord → List ℕ → Output

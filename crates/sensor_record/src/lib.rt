@@ -12,50 +12,34 @@ use sensor_values::SensorRecord;
 // The length of a record.
 const LENGTH: usize = 64;
 
-// What the reader answers.
-#[derive(Clone, Copy)]
-pub enum ReadRecord {
-    Refused(Refusal),
-    Held(SensorRecord),
-}
-
-// What the writer answers.
-#[derive(Clone, Copy)]
-pub enum WroteRecord {
-    Refused(Refusal),
-    Written,
-}
-
 // The record in 64 bytes that keep the rule.
-pub fn read(bytes: &[u8]) -> ReadRecord
+#[tactic(auto, unfolding(crate::specs::Answers::read_of, sensor_values::specs::Reading::sound_bytes))]
+pub fn read(bytes: &[u8]) -> Result<SensorRecord, Refusal>
     ensures { answered result ≡ read_of bytes.now }
 {
-    if bytes.len() != LENGTH {
-        return ReadRecord::Refused(Refusal::RecordUnsound);
-    }
-    if !sensor_reader::reserved_zero(bytes) {
-        return ReadRecord::Refused(Refusal::RecordUnsound);
+    if bytes.len() != LENGTH || !sensor_reader::reserved_zero(bytes) {
+        return Err(Refusal::RecordUnsound);
     }
     let values = sensor_reader::values(bytes);
     if !sensor_values::sound(values) {
-        return ReadRecord::Refused(Refusal::RecordUnsound);
+        return Err(Refusal::RecordUnsound);
     }
-    ReadRecord::Held(values)
+    Ok(values)
 }
 
 // The 64 bytes of a record that keeps the rule, over the front of an output. A refusal changes nothing.
-pub fn write(values: SensorRecord, out: &mut [u8]) -> WroteRecord
+#[tactic(auto, unfolding(crate::specs::Answers::write_of))]
+pub fn write(values: SensorRecord, out: &mut [u8]) -> Result<(), Refusal>
     ensures { outcome result out.new ≡ write_of values out.old }
 {
     if out.len() < LENGTH {
-        return WroteRecord::Refused(Refusal::OutputShort);
+        return Err(Refusal::OutputShort);
     }
     if !sensor_values::sound(values) {
-        return WroteRecord::Refused(Refusal::RecordUnsound);
+        return Err(Refusal::RecordUnsound);
     }
-    let bytes = sensor_writer::bytes(values);
-    little_endian::store(&bytes, 0, out);
-    WroteRecord::Written
+    little_endian::store(&sensor_writer::bytes(values), 0, out);
+    Ok(())
 }
 
 // Total power in watts from the raw 12 V readings.

@@ -11,7 +11,8 @@ use lib.Arith.{digits_lt}
 use lib.Dec.{ltb, eqb}
 use lib.Pow.{pow_pos, pow-add, shr-shr, mod-pow-add}
 use Rattle.test_laws.proofs.Tests.{both}
-use Rattle.sensor_values.specs.Layout.{BitField, packed}
+use Rattle.sensor_values.specs.declared.BitField.{BitField}
+use Rattle.sensor_values.specs.Layout.{packed}
 use Rattle.sensor_values.specs.Rule.{fitting, zeros}
 
 -- every test of a list holds

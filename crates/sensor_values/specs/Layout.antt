@@ -3,6 +3,7 @@
 use Rattle.std.specs.Prelude.{List, [], ◌∷◌, ◌++◌, ℕ, ◌+◌, ◌*◌, ◌^◌}
 use Rattle.little_endian.specs.Bytes.{little_endian}
 use Rattle.temperature.specs.Temperature.{byte_of}
+use Rattle.sensor_values.specs.declared.BitField.{BitField}
 use Rattle.sensor_values.specs.declared.BoardStatus.{BoardStatus}
 use Rattle.sensor_values.specs.declared.SecurityStatus.{SecurityStatus}
 use Rattle.sensor_values.specs.declared.InputSensor.{InputSensor}
@@ -13,11 +14,6 @@ use Rattle.sensor_values.specs.declared.Device.{Device}
 use Rattle.sensor_values.specs.declared.ModuleStatus.{ModuleStatus}
 use Rattle.sensor_values.specs.declared.NetworkModule.{NetworkModule}
 use Rattle.sensor_values.specs.declared.SensorRecord.{SensorRecord}
-
--- a bit field: how many bits wide it is, and its value
-pub record BitField : Type 0 where
-  pub width : ℕ
-  pub value : ℕ
 
 -- 4 wide v: a field of four bits with the value v
 infixl 70 ◌wide◌

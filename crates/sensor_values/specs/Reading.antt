@@ -6,6 +6,7 @@ use Rattle.temperature.specs.Temperature.{temperature_of}
 use Rattle.sensor_values.specs.Layout.{bytes_of}
 use Rattle.sensor_values.specs.Rule.{zeros, sound}
 use Rattle.sensor_values.specs.declared.BoardStatus.{BoardStatus}
+use Rattle.sensor_values.specs.declared.FlashControl.{FlashControl}
 use Rattle.sensor_values.specs.declared.SecurityStatus.{SecurityStatus}
 use Rattle.sensor_values.specs.declared.InputSensor.{InputSensor}
 use Rattle.sensor_values.specs.declared.BoardSensors.{BoardSensors}
@@ -39,12 +40,16 @@ status_of n = record {
   flash_writes = n bits 26 to 19;
 }
 
+-- the control of a flash, from a bit up: recovery, two bits of mode, write enable
+abbrev pub flash_of : ℕ → ℕ → FlashControl
+flash_of low n = record { recovery = n bit low; mode = n bits (low + 2) to (low + 1); write_enable = n bit (low + 3) }
+
 -- board security status information
 unfoldable pub security_of : ℕ → SecurityStatus
 security_of n = record {
   spi_device = n bit 0;
-  flash1 = record { recovery = n bit 1; mode = n bits 3 to 2; write_enable = n bit 4 };
-  flash2 = record { recovery = n bit 6; mode = n bits 8 to 7; write_enable = n bit 9 };
+  flash1 = flash_of 1 n;
+  flash2 = flash_of 6 n;
   authentication = n bits 14 to 11;
   jtag = n bit 15;
 }

@@ -3,7 +3,8 @@
 use Rattle.std.specs.Prelude.{Bool, true, not, ◌&&◌, List, [], ◌∷◌, ℕ, ◌^◌, ltb, eqb, ℤ}
 use Rattle.std.specs.Int.Signed.{mag}
 use Rattle.temperature.specs.Temperature.{byte_of}
-use Rattle.sensor_values.specs.Layout.{BitField, ◌wide◌, status_bits, security_bits, device_status_bits, module_status_bits}
+use Rattle.sensor_values.specs.declared.BitField.{BitField}
+use Rattle.sensor_values.specs.Layout.{◌wide◌, status_bits, security_bits, device_status_bits, module_status_bits}
 use Rattle.sensor_values.specs.declared.BoardStatus.{BoardStatus}
 use Rattle.sensor_values.specs.declared.SecurityStatus.{SecurityStatus}
 use Rattle.sensor_values.specs.declared.InputSensor.{InputSensor}

@@ -3,13 +3,21 @@
 // held, and breaks the rule.
 #![tactic(auto)]
 
+mod bits;
 mod rule;
 
 ghost use Rattle.std.specs.Prelude.{◌≡◌};
 ghost use Rattle.sensor_values.specs.Rule.{sound};
 
+// A bit field: how many bits wide it is, and its value.
+#[derive(Clone, Copy, PartialEq, Eq)]
+pub struct BitField {
+    pub width: u32,
+    pub value: u8,
+}
+
 // Board status information.
-#[derive(Clone, Copy)]
+#[derive(Clone, Copy, PartialEq, Eq)]
 pub struct BoardStatus {
     // Events of each kind, 0 to 15.
     pub tcrit: u8,
@@ -25,7 +33,7 @@ pub struct BoardStatus {
 }
 
 // The control of one device's flash.
-#[derive(Clone, Copy)]
+#[derive(Clone, Copy, PartialEq, Eq)]
 pub struct FlashControl {
     // 0: the primary flash is selected, 1: the recovery flash.
     pub recovery: u8,
@@ -36,7 +44,7 @@ pub struct FlashControl {
 }
 
 // Board security status information.
-#[derive(Clone, Copy)]
+#[derive(Clone, Copy, PartialEq, Eq)]
 pub struct SecurityStatus {
     // 0: the controller is connected to device 1, 1: to device 2.
     pub spi_device: u8,
@@ -49,14 +57,14 @@ pub struct SecurityStatus {
 }
 
 // One input sensor, raw: a unit of the 12 V input is 1.25 mA or 1.25 mV.
-#[derive(Clone, Copy)]
+#[derive(Clone, Copy, PartialEq, Eq)]
 pub struct InputSensor {
     pub current: u16,
     pub voltage: u16,
 }
 
 // The board's sensors. Temperatures are in degrees Celsius, total power is in watts.
-#[derive(Clone, Copy)]
+#[derive(Clone, Copy, PartialEq, Eq)]
 pub struct BoardSensors {
     pub inlet: i8,
     pub outlet: i8,
@@ -67,7 +75,7 @@ pub struct BoardSensors {
 }
 
 // A device's status information: four pins, and its heartbeat's count, 0 to 15.
-#[derive(Clone, Copy)]
+#[derive(Clone, Copy, PartialEq, Eq)]
 pub struct DeviceStatus {
     pub done: u8,
     pub init_b: u8,
@@ -77,7 +85,7 @@ pub struct DeviceStatus {
 }
 
 // A device's advanced error counters.
-#[derive(Clone, Copy)]
+#[derive(Clone, Copy, PartialEq, Eq)]
 pub struct ErrorCounters {
     pub ddr_uncorrectable: u16,
     pub ddr_correctable: u16,
@@ -86,7 +94,7 @@ pub struct ErrorCounters {
 }
 
 // One device.
-#[derive(Clone, Copy)]
+#[derive(Clone, Copy, PartialEq, Eq)]
 pub struct Device {
     pub status: DeviceStatus,
     pub fpga_temperature: i8,
@@ -96,7 +104,7 @@ pub struct Device {
 
 // A network module's status: two bits of rx_loss, tx_disable and tx_fault, four of rate_select, one of
 // each other.
-#[derive(Clone, Copy)]
+#[derive(Clone, Copy, PartialEq, Eq)]
 pub struct ModuleStatus {
     pub present: u8,
     pub interrupt: u8,
@@ -110,14 +118,14 @@ pub struct ModuleStatus {
 }
 
 // One network module.
-#[derive(Clone, Copy)]
+#[derive(Clone, Copy, PartialEq, Eq)]
 pub struct NetworkModule {
     pub temperature: i8,
     pub status: ModuleStatus,
 }
 
 // The whole record.
-#[derive(Clone, Copy)]
+#[derive(Clone, Copy, PartialEq, Eq)]
 pub struct SensorRecord {
     pub status: BoardStatus,
     pub security: SecurityStatus,
@@ -129,10 +137,9 @@ pub struct SensorRecord {
 }
 
 // Whether a record keeps the U30's rule.
+#[tactic(auto, unfolding(crate::specs::Rule::sound))]
 pub fn sound(values: SensorRecord) -> bool
     ensures { result ≡ sound values }
 {
-    let fits = rule::fields(values);
-    let clear = rule::unused(values);
-    fits & clear
+    rule::fields(values) && rule::unused(values)
 }

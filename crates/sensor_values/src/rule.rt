@@ -1,141 +1,140 @@
-// The rule of a record. Each part is one expression with no branch.
-ghost use Rattle.std.specs.Prelude.{◌≡◌};
-ghost use Rattle.sensor_values.specs.Rule.{status_fits, security_fits, device_fits, module_fits, fields, status_unused, sensors_unused};
-ghost use Rattle.sensor_values.specs.Rule.{devices_unused, module_unused, unused};
+// The rule of a record, part by part.
+ghost use Rattle.std.specs.Prelude.{◌≡◌, ◌^◌, ltb};
+ghost use Rattle.sensor_values.specs.Rule.{fitting, status_fits, security_fits, device_fits, module_fits, fields};
+ghost use Rattle.sensor_values.specs.Rule.{zeros, status_unused, sensors_unused, devices_unused, module_unused, unused};
 
-use crate::{BoardSensors, BoardStatus, Device, NetworkModule, SecurityStatus, SensorRecord};
+use crate::{
+    BitField, BoardSensors, BoardStatus, Device, NetworkModule, SecurityStatus, SensorRecord,
+};
 
+// Whether a value fits its bits.
+fn fits(f: BitField) -> bool
+    ensures { result ≡ ltb f.value (2 ^ f.width) }
+{
+    (f.value as u16) < 2u16.saturating_pow(f.width)
+}
+
+// Whether each value fits its bits.
+fn fitting(bits: &[BitField]) -> bool
+    ensures { result ≡ fitting bits.now }
+{
+    bits.iter().all(|f| fits(*f))
+}
+
+// Whether each number is 0.
+fn zeros(numbers: &[u8]) -> bool
+    ensures { result ≡ zeros numbers.now }
+{
+    numbers.iter().all(|n| *n == 0)
+}
+
+#[tactic(auto, unfolding(crate::specs::Rule::status_fits))]
 fn status_fits(s: BoardStatus) -> bool
     ensures { result ≡ status_fits s }
 {
-    (s.tcrit < 16)
-        & (s.power_good < 16)
-        & (s.twarn < 16)
-        & (s.hbm_cattrip < 16)
-        & (s.module0_present < 2)
-        & (s.module1_present < 2)
-        & (s.aux_cable < 2)
+    fitting(&s.bits())
 }
 
 // A flash mode of 3 fits its bits and is not valid.
+#[tactic(auto, unfolding(crate::specs::Rule::security_fits))]
 fn security_fits(s: SecurityStatus) -> bool
     ensures { result ≡ security_fits s }
 {
-    let one = s.flash1;
-    let two = s.flash2;
-    let fits = (s.spi_device < 2)
-        & (one.recovery < 2)
-        & (one.mode < 4)
-        & (one.write_enable < 2)
-        & (two.recovery < 2)
-        & (two.mode < 4)
-        & (two.write_enable < 2)
-        & (s.authentication < 16)
-        & (s.jtag < 2);
-    fits & (one.mode != 3) & (two.mode != 3)
+    fitting(&s.bits()) && s.flash1.mode != 3 && s.flash2.mode != 3
 }
 
+#[tactic(auto, unfolding(crate::specs::Rule::device_fits, crate::specs::Rule::errors_fit))]
 fn device_fits(d: Device) -> bool
     ensures { result ≡ device_fits d }
 {
-    let s = d.status;
-    (s.done < 2) & (s.init_b < 2) & (s.error_out < 2) & (s.error_status < 2) & (s.keep_alive < 16)
+    fitting(&d.status.bits())
 }
 
+#[tactic(auto, unfolding(crate::specs::Rule::module_fits))]
 fn module_fits(m: NetworkModule) -> bool
     ensures { result ≡ module_fits m }
 {
-    let s = m.status;
-    (s.present < 2)
-        & (s.interrupt < 2)
-        & (s.low_power < 2)
-        & (s.rate_select < 16)
-        & (s.rx_loss < 4)
-        & (s.tx_disable < 4)
-        & (s.tx_fault < 4)
-        & (s.power_enable < 2)
-        & (s.over_current < 2)
+    fitting(&m.status.bits())
 }
 
 // Whether each value fits its bits, and no flash mode is 3. Numbers of 16 and 32 bits and
 // temperatures always fit.
+#[tactic(auto, unfolding(crate::specs::Rule::fields, crate::specs::Rule::sensors_fit, crate::specs::Rule::input_fits))]
 pub fn fields(values: SensorRecord) -> bool
     ensures { result ≡ fields values }
 {
-    let status = values.status;
-    let security = values.security;
-    let one = values.device1;
-    let two = values.device2;
-    let lower = values.module0;
-    let upper = values.module1;
-    let a = status_fits(status);
-    let b = security_fits(security);
-    let c = device_fits(one);
-    let d = device_fits(two);
-    let e = module_fits(lower);
-    let f = module_fits(upper);
-    a & b & c & d & e & f
+    status_fits(values.status)
+        && security_fits(values.security)
+        && device_fits(values.device1)
+        && device_fits(values.device2)
+        && module_fits(values.module0)
+        && module_fits(values.module1)
 }
 
+#[tactic(auto, unfolding(crate::specs::Rule::status_unused))]
 fn status_unused(s: BoardStatus) -> bool
     ensures { result ≡ status_unused s }
 {
-    (s.twarn == 0)
-        & (s.hbm_cattrip == 0)
-        & (s.module0_present == 0)
-        & (s.module1_present == 0)
-        & (s.aux_cable == 0)
+    zeros(&[
+        s.twarn,
+        s.hbm_cattrip,
+        s.module0_present,
+        s.module1_present,
+        s.aux_cable,
+    ])
 }
 
+#[tactic(auto, unfolding(crate::specs::Rule::sensors_unused))]
 fn sensors_unused(s: BoardSensors) -> bool
     ensures { result ≡ sensors_unused s }
 {
-    let low = s.input_3v3;
-    let aux = s.input_aux;
-    (low.current == 0) & (low.voltage == 0) & (aux.current == 0) & (aux.voltage == 0)
+    [
+        s.input_3v3.current,
+        s.input_3v3.voltage,
+        s.input_aux.current,
+        s.input_aux.voltage,
+    ] == [0; 4]
 }
 
 // Device 2 may set the two bits that device 1 leaves 0.
+#[tactic(auto, unfolding(crate::specs::Rule::devices_unused))]
 fn devices_unused(one: Device, two: Device) -> bool
     ensures { result ≡ devices_unused one two }
 {
-    let s = one.status;
-    let t = one.hbm_temperature;
-    let u = two.hbm_temperature;
-    (s.error_status == 0) & (s.error_out == 0) & (t == 0) & (u == 0)
+    zeros(&[
+        one.status.error_status,
+        one.status.error_out,
+        temperature::to_byte(one.hbm_temperature),
+        temperature::to_byte(two.hbm_temperature),
+    ])
 }
 
+#[tactic(auto, unfolding(crate::specs::Rule::module_unused))]
 fn module_unused(m: NetworkModule) -> bool
     ensures { result ≡ module_unused m }
 {
-    let s = m.status;
-    let t = m.temperature;
-    (t == 0)
-        & (s.present == 0)
-        & (s.interrupt == 0)
-        & (s.low_power == 0)
-        & (s.rate_select == 0)
-        & (s.rx_loss == 0)
-        & (s.tx_disable == 0)
-        & (s.tx_fault == 0)
-        & (s.power_enable == 0)
-        & (s.over_current == 0)
+    zeros(&[
+        temperature::to_byte(m.temperature),
+        m.status.present,
+        m.status.interrupt,
+        m.status.low_power,
+        m.status.rate_select,
+        m.status.rx_loss,
+        m.status.tx_disable,
+        m.status.tx_fault,
+        m.status.power_enable,
+        m.status.over_current,
+    ])
 }
 
 // Whether everything is 0 that the U30 leaves 0.
+#[tactic(auto, unfolding(crate::specs::Rule::unused))]
 pub fn unused(values: SensorRecord) -> bool
     ensures { result ≡ unused values }
 {
-    let status = values.status;
-    let sensors = values.sensors;
-    let one = values.device1;
-    let two = values.device2;
-    let lower = values.module0;
-    let upper = values.module1;
-    let a = status_unused(status);
-    let b = sensors_unused(sensors);
-    let c = devices_unused(one, two);
-    let d = module_unused(lower);
-    let e = module_unused(upper);
-    a & b & c & d & e
+    status_unused(values.status)
+        && sensors_unused(values.sensors)
+        && devices_unused(values.device1, values.device2)
+        && module_unused(values.module0)
+        && module_unused(values.module1)
 }

@@ -4,13 +4,13 @@
 
 use arguments::Options;
 use byte_parts::{front, front_mut};
-use files::Reading;
 use loader::{Loader, Mode};
 use refusal::Refusal;
 use report::{Line, System};
 use std::io;
 use std::rt::{Env, Files};
 use tool_verdict::Behind;
+use tool_words::packets::{Packet, Packets};
 use tool_words::{cause, packets};
 
 // Where the columns behind the command begin: how a card comes up from a cut before the packet, inside and after it.
@@ -39,27 +39,31 @@ struct Seen {
 }
 
 // Reads the region that a card held; where no file is named, it is 0x00 throughout. The answer is its length.
-fn read_region(rt: &(impl System + Env + Files), options: Options, room: &mut [u8]) -> Reading {
-    let name = options.region;
-    if name.argument != 0 {
-        return files::read(rt, name, room);
+fn read_region(
+    rt: &(impl System + Env + Files),
+    options: Options,
+    room: &mut [u8],
+) -> Option<usize> {
+    if options.region.is_some() {
+        let held = files::read(rt, options.region, room)?;
+        return Some(held.len());
     }
-    region::fill(room, 0x00);
-    Reading::Held(options.size)
+    room.fill(0x00);
+    Some(options.size)
 }
 
 // Says that the region of a file has another length than the card's. A longer file may not have been read whole.
 fn refused(rt: &impl Print, length: usize, size: usize) -> io::Result<()> {
-    let line = Line::new().text(b"the file of --region has ");
+    let line = Line::new().text("the file of --region has ");
     cause::refused(rt, Refusal::RegionSize)?;
     if size < length {
-        line.text(b"more than ")
-            .count(size, b"byte")
-            .text(b", the size")
+        line.text("more than ")
+            .count(size, "byte")
+            .text(", the size")
             .print(rt)
     } else {
-        line.count(length, b"byte")
-            .text(b", and the size is ")
+        line.count(length, "byte")
+            .text(", and the size is ")
             .decimal(size)
             .print(rt)
     }
@@ -86,115 +90,76 @@ fn starts_from(
     starts(state, other)
 }
 
-// What was seen, with one restart more.
-fn seen_too(seen: Seen, started: bool) -> Seen {
-    Seen {
-        locked: seen.locked | !started,
-        application: seen.application | started,
-    }
-}
-
-// Tries places inside a packet's work, from the first on and as far apart as so few allow. The work of a write is at most
-// 256 and that of an erase at most 64, and so the remainder is the work itself.
+// Tries places inside a packet's work, from the first on and as far apart as so few allow.
 fn inside(state: Loader, packet: &[u8], region: &[u8], other: &mut [u8]) -> Seen {
-    let work = power_cut::work(state, region, packet) % 65536;
-    let step = work / MOST + 1;
+    let work = power_cut::work(state, region, packet);
+    let step = (work / MOST).saturating_add(1);
     let mut seen = Seen {
         locked: false,
         application: false,
     };
-    let mut place = 1;
-    while place < work {
-        let started = starts_from(state, packet, place, region, other);
-        seen = seen_too(seen, started);
-        place += step;
+    for place in (1..work).step_by(step) {
+        if starts_from(state, packet, place, region, other) {
+            seen.application = true;
+        } else {
+            seen.locked = true;
+        }
     }
     seen
 }
 
-// A line with the mode behind it that a card comes up in.
-fn mode(line: Line, started: bool) -> Line {
-    if started {
-        return line.text(b"application");
-    }
-    line.text(b"locked")
+// The mode that a card comes up in.
+fn mode(started: bool) -> &'static str {
+    if started { "application" } else { "locked" }
 }
 
-// A line with the modes behind it that a card was seen to come up in.
-fn modes(line: Line, seen: Seen) -> Line {
-    if seen.locked & seen.application {
-        return line.text(b"either");
+// The modes that a card was seen to come up in.
+fn modes(seen: Seen) -> &'static str {
+    match (seen.locked, seen.application) {
+        (true, true) => "either",
+        (false, false) => "-",
+        (_, started) => mode(started),
     }
-    if seen.locked | seen.application {
-        return mode(line, seen.application);
-    }
-    line.text(b"-")
 }
 
 fn heading(rt: &impl Print, options: Options) -> io::Result<()> {
-    let name = options.region;
-    if name.argument == 0 {
-        Line::new()
-            .text(b"how a card whose flash held 0x00 throughout comes up if the power fails:")
-            .print(rt)?;
-    } else {
-        Line::new()
-            .text(b"how a card whose flash held that region comes up if the power fails:")
-            .print(rt)?;
-    }
+    let held = match options.region {
+        Some(_) => "that region",
+        None => "0x00 throughout",
+    };
+    Line::new()
+        .text("how a card whose flash held ")
+        .text(held)
+        .text(" comes up if the power fails:")
+        .print(rt)?;
     packets::heading()
         .to(BEFORE)
-        .text(b"before it    inside it    after it")
+        .text("before it    inside it    after it")
         .print(rt)
-}
-
-// The line of a packet up to the column behind it, with the mode that a card comes up in before it.
-fn before(number: usize, at: usize, packet: &[u8], started: bool) -> Line {
-    mode(packets::row(number, at, packet).to(BEFORE), started).to(INSIDE)
 }
 
 // Prints the line of a packet, and runs it.
 fn row(
     rt: &impl Print,
-    number: usize,
-    at: usize,
+    packet: Packet<'_>,
     reached: Reached,
     password: &[u8],
-    packet: &[u8],
     region: &mut [u8],
     other: &mut [u8],
 ) -> io::Result<Reached> {
-    let seen = inside(reached.state, packet, region, other);
-    let received = loader::receive(reached.state, region, password, packet);
+    let seen = inside(reached.state, packet.bytes, region, other);
+    let received = loader::receive(reached.state, region, password, packet.bytes);
     let state = received.loader;
     let started = starts(state, region);
-    let line = modes(before(number, at, packet, reached.started), seen);
-    mode(line.to(AFTER), started).print(rt)?;
+    packets::row(packet)
+        .to(BEFORE)
+        .text(mode(reached.started))
+        .to(INSIDE)
+        .text(modes(seen))
+        .to(AFTER)
+        .text(mode(started))
+        .print(rt)?;
     Ok(Reached { state, started })
-}
-
-// The lines of all packets of a script that passes, as it is sent to a card.
-fn rows(
-    rt: &impl Print,
-    script: &[u8],
-    password: &[u8],
-    card: Reached,
-    region: &mut [u8],
-    other: &mut [u8],
-) -> io::Result<()> {
-    let mut reached = card;
-    let mut number = 1;
-    let mut at = packets::HEAD;
-    while at < script.len() {
-        let packet = packets::packet_at(script, at);
-        if packet.len() == 0 {
-            return Ok(());
-        }
-        reached = row(rt, number, at, reached, password, packet, region, other)?;
-        at += packet.len();
-        number += 1;
-    }
-    Ok(())
 }
 
 // Says how a card comes up from cuts, as it is sent a script that passes, the region being what it held before.
@@ -212,17 +177,13 @@ fn print(
         expected,
     };
     let started = starts(state, region);
+    let mut reached = Reached { state, started };
     heading(rt, options)?;
-    rows(
-        rt,
-        script,
-        password,
-        Reached { state, started },
-        region,
-        other,
-    )?;
+    for packet in Packets::of(script) {
+        reached = row(rt, packet, reached, password, region, other)?;
+    }
     Line::new()
-        .text(b"inside it: tried at up to 4 places of the packet's work")
+        .text("inside it: tried at up to 4 places of the packet's work")
         .print(rt)
 }
 
@@ -239,11 +200,11 @@ pub fn say(
     room: &mut [u8],
 ) -> io::Result<()> {
     let size = options.size;
-    let Reading::Held(n) = read_region(rt, options, room) else {
+    let Some(held) = read_region(rt, options, room) else {
         return Ok(());
     };
-    if n != size {
-        return refused(rt, n, size);
+    if held != size {
+        return refused(rt, held, size);
     }
     tool_verdict::passed(rt, script, front(text, length), behind)?;
     let region = front_mut(room, size);

@@ -1,77 +1,89 @@
 // The segments of a firmware text that is sound, one after the other.
+ghost use Rattle.std.specs.Iterator.{at_most};
+
 use text_cursor::{Cursor, Token};
 
-// The line that opens a segment, if one was found: the segment's address, and the place behind the line.
+// A segment: its number, from 1, its address, and how many bytes it has.
 #[derive(Clone, Copy)]
-pub struct Opening {
-    pub found: bool,
-    pub address: u64,
-    pub cursor: Cursor,
+pub struct Segment {
+    pub number: usize,
+    pub address: usize,
+    pub count: usize,
+}
+
+// The line that opens a segment: the segment's address, and the place behind the line.
+#[derive(Clone, Copy)]
+struct Opening {
+    address: u64,
+    cursor: Cursor,
 }
 
 // The number of a segment's bytes, and the line behind it that opens the next.
 #[derive(Clone, Copy)]
-pub struct Ending {
-    pub count: usize,
-    pub next: Opening,
+struct Ending {
+    count: usize,
+    next: Option<Opening>,
 }
 
-// More than any text has of anything.
-const MANY: usize = 4294967296;
-
-// The sum of two numbers of what a text has, or one of them that is too great for that.
-pub fn together(a: usize, b: usize) -> usize {
-    if MANY <= a {
-        return a;
-    }
-    if MANY <= b {
-        return b;
-    }
-    a + b
+// The segments of a text. Each takes at least one byte of it, so there are no more than that.
+#[derive(Drop)]
+pub struct Segments<'a> {
+    text: &'a [u8],
+    number: usize,
+    next: Option<Opening>,
 }
 
-fn nothing() -> Opening {
-    Opening {
-        found: false,
-        address: 0,
-        cursor: Cursor::new(),
+impl<'a> Segments<'a> {
+    pub fn of(text: &'a [u8]) -> Segments<'a> {
+        Segments {
+            text,
+            number: 0,
+            next: opened_by(Cursor::new().next(text)),
+        }
+    }
+}
+
+impl<'a> Iterator for Segments<'a> {
+    type Item = Segment;
+
+    ghost use Rattle.std.specs.Prelude.{◌-◌, length};
+
+    ghost remaining = { λ s. at_most (length s.text.now - s.number) };
+
+    fn next(&mut self) -> Option<Segment> {
+        let Opening { address, cursor } = self.next?;
+        if self.text.len() <= self.number {
+            return None;
+        }
+        let Ending { count, next } = end_of(self.text, cursor);
+        self.number += 1;
+        self.next = next;
+        Some(Segment {
+            number: self.number,
+            address: address as usize,
+            count,
+        })
     }
 }
 
 // The line that a token is, if that opens a segment.
-fn opened_by(token: Token) -> Opening {
+fn opened_by(token: Token) -> Option<Opening> {
     match token {
-        Token::Segment { address, cursor } => {
-            Opening {
-                found: true,
-                address,
-                cursor,
-            }
-        }
-        _ => nothing(),
+        Token::Segment { address, cursor } => Some(Opening { address, cursor }),
+        _ => None,
     }
 }
 
-// The first segment of a text.
-pub fn first(text: &[u8]) -> Opening {
-    opened_by(Cursor::new().next(text))
-}
-
-// How a segment of a text ends. Each of its bytes takes at least one of the text, so there are no more than that.
-pub fn end_of(text: &[u8], from: Opening) -> Ending {
-    let mut cursor = from.cursor;
-    for taken in 0..text.len() {
-        let token = cursor.next(text);
-        match token {
-            Token::Byte {
-                place: _,
-                address: _,
-                value: _,
-                cursor: next,
-            } => cursor = next,
-            _ => {
+// How a segment of a text ends that begins at a cursor. Each of its bytes takes at least one of the text, so there are no
+// more than that.
+fn end_of(text: &[u8], begin: Cursor) -> Ending {
+    let mut cursor = begin;
+    for count in 0..text.len() {
+        match cursor.next(text) {
+            Token::Byte { cursor: next, .. } => cursor = next,
+            token => {
                 return Ending {
-                    count: taken,
+                    count,
                     next: opened_by(token),
                 };
             }
@@ -79,6 +91,6 @@ pub fn end_of(text: &[u8], from: Opening) -> Ending {
     }
     Ending {
         count: text.len(),
-        next: nothing(),
+        next: None,
     }
 }

@@ -1,10 +1,9 @@
 // `sums`: the checksums of a firmware text's segments, the packets that ask a card for them, and the replies of a card that
 // holds the image. A range checksum covers at most 65,535 bytes, so a longer segment is asked for in stretches, and the
 // checksum of all its bytes is what the replies give when they are joined.
-ghost use Rattle.std.specs.Prelude.{◌-◌, ◌≤◌, length};
-
-use crate::segments;
+use crate::segments::{Segment, Segments};
 use byte_parts::{behind, front};
+use little_endian::Number;
 use report::Line;
 use std::io;
 use tool_words::lines;
@@ -22,16 +21,11 @@ const PACKET_AT: usize = 28;
 
 const REPLY_AT: usize = 65;
 
-// The line with a space and a byte behind it.
-fn with_byte(line: Line, b: u8) -> Line {
-    line.byte(b' ').code(b as usize, 2)
-}
-
 // The line with bytes behind it, a space before each.
 fn with_bytes(line: Line, bytes: &[u8]) -> Line {
     let mut longer = line;
-    for i in 0..bytes.len() {
-        longer = with_byte(longer, bytes[i]);
+    for &b in bytes {
+        longer = longer.text(" ").code(b);
     }
     longer
 }
@@ -39,8 +33,8 @@ fn with_bytes(line: Line, bytes: &[u8]) -> Line {
 // The packet that asks a card for the checksum of so many bytes from an address on.
 fn asking(address: usize, count: usize) -> [u8; 12] {
     let mut core = [0x26u8, 0, 0, 0, 0, 0, 0];
-    little_endian::store_four((address % 4294967296) as u32, 1, &mut core);
-    little_endian::store_two((count % 65536) as u16, 5, &mut core);
+    ((address % 4294967296) as u32).store_at(1, &mut core);
+    ((count % 65536) as u16).store_at(5, &mut core);
     let mut message = [0u8; 12];
     packet::write(&core, &mut message);
     message
@@ -48,25 +42,24 @@ fn asking(address: usize, count: usize) -> [u8; 12] {
 
 // The reply that carries a checksum: the byte 00, and a packet of data.
 fn carrying(sum: u16) -> [u8; 9] {
-    let mut core = [0x3Au8, 0, 0];
-    little_endian::store_two(sum, 1, &mut core);
+    let [low, high] = sum.to_le_bytes();
     let mut reply = [0u8; 9];
-    packet::write(&core, &mut reply[1..]);
+    packet::write(&[0x3A, low, high], &mut reply[1..]);
     reply
 }
 
 // Prints what stands in the columns.
 fn print_heading(rt: &impl Print) -> io::Result<()> {
     Line::new()
-        .text(b"  at")
+        .text("  at")
         .to(BYTES_END - 5)
-        .text(b"bytes")
+        .text("bytes")
         .to(CHECKSUM_AT)
-        .text(b"checksum")
+        .text("checksum")
         .to(PACKET_AT)
-        .text(b"packet that asks for it")
+        .text("packet that asks for it")
         .to(REPLY_AT)
-        .text(b"reply")
+        .text("reply")
         .print(rt)
 }
 
@@ -74,88 +67,55 @@ fn print_heading(rt: &impl Print) -> io::Result<()> {
 fn print_stretch(rt: &impl Print, address: usize, bytes: &[u8]) -> io::Result<()> {
     let sum = crc::checksum(crc::START, bytes);
     let stretch = Line::new()
-        .text(b"  ")
+        .text("  ")
         .hex(address)
         .right(bytes.len(), BYTES_END)
         .to(CHECKSUM_AT)
-        .text(b"0x")
-        .code(sum as usize, 4)
+        .checksum(sum)
         .to(PACKET_AT - 1);
     let asked = with_bytes(stretch, &asking(address, bytes.len()));
     with_bytes(asked.to(REPLY_AT - 1), &carrying(sum)).print(rt)
 }
 
-// The stretch of a segment's bytes from a place on.
-fn stretch_at(bytes: &[u8], from: usize) -> &[u8]
-    ensures { length result.now ≤ length bytes.now - from }
-{
-    front(behind(bytes, from), LONGEST)
+// What is behind the line of a segment of so many bytes, where its checksum takes more or less than one reply of a card.
+fn replies(count: usize) -> &'static str {
+    match count {
+        0 => ", nothing to ask for",
+        1..=LONGEST => "",
+        _ => ", which its replies give when joined",
+    }
 }
 
-// Prints the stretches of a segment that begins at an address.
-fn print_stretches(rt: &impl Print, address: usize, bytes: &[u8]) -> io::Result<()> {
-    let mut from = 0;
-    while from < bytes.len() {
-        let stretch = stretch_at(bytes, from);
-        let count = stretch.len();
-        if count == 0 {
-            return Ok(());
-        }
-        print_stretch(rt, segments::together(address, from), stretch)?;
-        from += count;
+// Prints a segment, the checksum of all its bytes, and its stretches.
+fn print_segment(rt: &impl Print, segment: Segment, bytes: &[u8]) -> io::Result<()> {
+    let mut address = segment.address;
+    Line::new()
+        .text("segment ")
+        .decimal(segment.number)
+        .text(" at ")
+        .hex(address)
+        .text(", ")
+        .count(bytes.len(), "byte")
+        .text(", checksum ")
+        .checksum(crc::checksum(crc::START, bytes))
+        .text(replies(bytes.len()))
+        .print(rt)?;
+    for stretch in bytes.chunks(LONGEST) {
+        print_stretch(rt, address, stretch)?;
+        address = address.saturating_add(stretch.len());
     }
     Ok(())
 }
 
-// The line of a segment of so many bytes with how its checksum is had from a card, where that takes more or less than one reply.
-fn with_replies(line: Line, count: usize) -> Line {
-    if count == 0 {
-        return line.text(b", nothing to ask for");
-    }
-    if count <= LONGEST {
-        return line;
-    }
-    line.text(b", which its replies give when joined")
-}
-
-// Prints a segment with its number, and the checksum of all its bytes.
-fn print_segment(rt: &impl Print, number: usize, address: usize, bytes: &[u8]) -> io::Result<()> {
-    let count = bytes.len();
-    let named = Line::new()
-        .text(b"segment ")
-        .decimal(number)
-        .text(b" at ")
-        .hex(address);
-    let line = named
-        .text(b", ")
-        .count(count, b"byte")
-        .text(b", checksum 0x")
-        .code(crc::checksum(crc::START, bytes) as usize, 4);
-    with_replies(line, count).print(rt)?;
-    print_stretches(rt, address, bytes)
-}
-
-// Prints the segments of a text whose image a region holds, and answers how many bytes they have. Each takes at least one
-// byte of the text, so there are no more than that.
+// Prints the segments of a text whose image a region holds, and answers how many bytes they have.
 fn print_segments(rt: &impl Print, text: &[u8], region: &[u8]) -> io::Result<usize> {
-    let mut open = segments::first(text);
-    let mut bytes = 0;
-    for i in 0..text.len() {
-        if !open.found {
-            return Ok(bytes);
-        }
-        let address = open.address as usize;
-        let end = segments::end_of(text, open);
-        print_segment(
-            rt,
-            i + 1,
-            address,
-            front(behind(region, address), end.count),
-        )?;
-        bytes = segments::together(bytes, end.count);
-        open = end.next;
+    let mut count: usize = 0;
+    for segment in Segments::of(text) {
+        let bytes = front(behind(region, segment.address), segment.count);
+        print_segment(rt, segment, bytes)?;
+        count = count.saturating_add(segment.count);
     }
-    Ok(bytes)
+    Ok(count)
 }
 
 // Prints the table of a text's segments, and whose replies it has.
@@ -165,23 +125,22 @@ fn print_table(rt: &impl Print, text: &[u8], region: &[u8]) -> io::Result<()> {
         return Ok(());
     }
     Line::new()
-        .text(b"replies are those of an unlocked loader that holds the image")
-        .text(b"; a locked one wants its password first")
+        .text("replies are those of an unlocked loader that holds the image")
+        .text("; a locked one wants its password first")
         .print(rt)
 }
 
 // Prints the checksums of a text that is sound for the size, whose image the region holds.
 pub fn print(rt: &impl Print, text: &[u8], size: usize, region: &[u8]) -> io::Result<()> {
-    lines::bytes(rt, b"checksums in a region of ", size)?;
-    let open = segments::first(text);
-    if open.found {
+    lines::bytes(rt, "checksums in a region of ", size)?;
+    if Segments::of(text).next().is_some() {
         print_table(rt, text, region)?;
     } else {
-        Line::new().text(b"no segment").print(rt)?;
+        Line::new().text("no segment").print(rt)?;
     }
     Line::new()
-        .text(b"image checksum 0x")
-        .code(crc::checksum(crc::START, region) as usize, 4)
-        .text(b", of all bytes of the region, 0xff where no segment stands")
+        .text("image checksum ")
+        .checksum(crc::checksum(crc::START, region))
+        .text(", of all bytes of the region, 0xff where no segment stands")
         .print(rt)
 }

@@ -9,33 +9,25 @@ use arguments::{Name, Options};
 use files::{Replacing, Rule};
 
 // What a command may replace that has read two files: what it replaces by itself, or with --force any regular file.
-fn rule(options: Options, second: Name, usual: Replacing) -> Rule {
-    let first = options.first;
-    if options.force {
-        return Rule {
-            first,
-            second,
-            replacing: Replacing::Any,
-        };
-    }
+fn rule(options: Options, second: Option<Name>, usual: Replacing) -> Rule {
     Rule {
-        first,
+        first: options.first,
         second,
-        replacing: usual,
+        replacing: if options.force { Replacing::Any } else { usual },
     }
 }
 
 // The checksum of the picture of a text, which is put into a region for it. Where the text is refused, it
 // is that of the region as it was.
-pub fn image_checksum(text: &[u8], region: &mut [u8]) -> u16 {
+fn image_checksum(text: &[u8], region: &mut [u8]) -> u16 {
     ti_txt::read(text, region.len(), region);
     crc::checksum(crc::START, region)
 }
 
 // The checksum that a card expects: the one asked for, or that of the picture of a text.
-pub fn expected_checksum(asked: u32, text: &[u8], region: &mut [u8]) -> u16 {
-    if asked < arguments::OWN {
-        return (asked % 65536) as u16;
+pub fn expected_checksum(asked: Option<u16>, text: &[u8], region: &mut [u8]) -> u16 {
+    match asked {
+        Some(sum) => sum,
+        None => image_checksum(text, region),
     }
-    image_checksum(text, region)
 }

@@ -1,8 +1,9 @@
 // `picture`: the picture of a firmware text, byte for byte what the flash region is to hold, written into a file.
 use crate::rule;
 use arguments::Options;
-use byte_parts::{front, front_mut};
-use files::{Reading, Replacing};
+use byte_parts::front_mut;
+use files::Replacing;
+use refusal::Refused;
 use report::System;
 use std::io;
 use std::random::RandomSource;
@@ -16,12 +17,12 @@ fn save(
     options: Options,
     region: &[u8],
 ) -> io::Result<()> {
-    let replaced = rule(options, arguments::nothing(), Replacing::Nothing);
+    let replaced = rule(options, None, Replacing::Nothing);
     if !files::save(rt, options.second, region, replaced) {
         return Ok(());
     }
-    lines::bytes(rt, b"written ", region.len())?;
-    lines::checksum(rt, b"image checksum ", crc::checksum(crc::START, region))
+    lines::bytes(rt, "written ", region.len())?;
+    lines::checksum(rt, "image checksum ", crc::checksum(crc::START, region))
 }
 
 // Fills a region with the picture of a text and saves it, or says why the text is refused.
@@ -32,7 +33,7 @@ fn picture(
     region: &mut [u8],
 ) -> io::Result<()> {
     match ti_txt::read(text, options.size, region) {
-        Verdict::Refused { refusal, place: at } => place::refused(rt, text, refusal, at),
+        Verdict::Refused { refusal, place } => place::refused(rt, text, Refused { refusal, place }),
         Verdict::Sound => save(rt, options, region),
     }
 }
@@ -40,11 +41,11 @@ fn picture(
 pub fn run(
     rt: &(impl System + Env + Files + RandomSource + Alloc),
     options: Options,
-    text: &mut [u8],
+    room: &mut [u8],
     region: &mut [u8],
 ) -> io::Result<()> {
-    let Reading::Held(n) = files::read(rt, options.first, text) else {
-        return Ok(());
-    };
-    picture(rt, options, front(text, n), front_mut(region, options.size))
+    match files::read(rt, options.first, room) {
+        Some(text) => picture(rt, options, text, front_mut(region, options.size)),
+        None => Ok(()),
+    }
 }

@@ -2,8 +2,9 @@
 use crate::{image_checksum, rule};
 use arguments::Options;
 use byte_parts::{front, front_mut};
-use files::{PASSWORD_ROOM, Reading, Replacing};
+use files::{PASSWORD_ROOM, Replacing};
 use planner::Planned;
+use refusal::Refused;
 use report::System;
 use std::io;
 use std::random::RandomSource;
@@ -18,10 +19,9 @@ fn print(
     script: &[u8],
     sum: u16,
 ) -> io::Result<()> {
-    let framing = packets::framing(script);
-    lines::bytes(rt, b"planned ", script.len())?;
-    lines::number(rt, b"packets ", framing.packets)?;
-    lines::checksum(rt, b"image checksum ", sum)?;
+    lines::bytes(rt, "planned ", script.len())?;
+    lines::number(rt, "packets ", packets::count(script))?;
+    lines::checksum(rt, "image checksum ", sum)?;
     entry::print(rt, text, options.entry as usize)
 }
 
@@ -50,10 +50,11 @@ fn plan(
     region: &mut [u8],
 ) -> io::Result<()> {
     match planner::plan(text, password, options.entry, options.size, script) {
-        Planned::Refused { refusal, place: at } => place::refused(rt, text, refusal, at),
+        Planned::Refused { refusal, place } => {
+            place::refused(rt, text, Refused { refusal, place })
+        }
         Planned::Written(n) => {
-            let sized = front_mut(region, options.size);
-            let sum = image_checksum(text, sized);
+            let sum = image_checksum(text, front_mut(region, options.size));
             save(rt, options, text, front(script, n), sum)
         }
     }
@@ -62,16 +63,16 @@ fn plan(
 pub fn run(
     rt: &(impl System + Env + Files + RandomSource + Alloc),
     options: Options,
-    text: &mut [u8],
+    room: &mut [u8],
     script: &mut [u8],
     region: &mut [u8],
 ) -> io::Result<()> {
-    let Reading::Held(n) = files::read(rt, options.first, text) else {
+    let Some(text) = files::read(rt, options.first, room) else {
         return Ok(());
     };
     let mut room = [0u8; PASSWORD_ROOM];
-    let Reading::Held(m) = files::read_password(rt, options.password, &mut room) else {
-        return Ok(());
-    };
-    plan(rt, options, front(text, n), front(&room, m), script, region)
+    match files::read_password(rt, options.password, &mut room) {
+        Some(password) => plan(rt, options, text, password, script, region),
+        None => Ok(()),
+    }
 }

@@ -2,48 +2,54 @@
 // is a slice of at most 4,095 bytes, and text in UTF-8. None of these functions asks anything of its input.
 #![tactic(auto)]
 
-ghost use Rattle.std.specs.Prelude.{◌≤◌, length};
-ghost use Rattle.std.specs.Io.{ReadsAtMost};
-
+use arrayvec::ArrayVec;
 use std::io::{Error, ErrorKind};
 use std::os::unix::fs::MetadataExt;
 use std::rt::Files;
 use std::{fs, io, str};
 
+// One byte more than the longest path has: room for a path and the 0 that ends it for the system.
+pub const PATH_MAX: usize = 4096;
+
+// A path, or another word of the arguments.
+pub type Word = ArrayVec<u8, PATH_MAX>;
+
 // A file by its device and its number there, whatever its names are.
-#[derive(Clone, Copy)]
+#[derive(Clone, Copy, PartialEq, Eq)]
 pub struct File {
     pub device: u64,
     pub number: u64,
 }
 
 // What stands at a path, links followed.
-#[derive(Drop)]
+#[derive(Clone, Copy, PartialEq, Eq)]
 pub enum Standing {
     Missing,
     Regular(File),
     // A folder, a pipe, a device: anything else.
     Other(File),
-    // The system does not say, for this reason.
-    Unknown(Error),
-    // The path is too long to be asked for.
-    TooLong,
 }
 
-// One byte more than the longest path has: room for a path and the 0 that ends it for the system.
-pub const PATH_MAX: usize = 4096;
+// That a path has more bytes than a word or the system takes.
+pub fn too_long() -> Error {
+    Error::new(ErrorKind::InvalidFilename, "the name is too long")
+}
 
 // A path as it is asked for, if it is text.
 pub fn text(path: &[u8]) -> io::Result<&str> {
-    match str::from_utf8(path) {
-        Ok(text) => Ok(text),
-        Err(_) => Err(Error::new(ErrorKind::InvalidFilename, "the name is not UTF-8")),
-    }
+    str::from_utf8(path)
+        .map_err(|_| Error::new(ErrorKind::InvalidFilename, "the name is not UTF-8"))
 }
 
-// What the system says of the file at a path.
-fn look(rt: &impl Files, path: &[u8]) -> io::Result<Standing> {
-    let found = fs::metadata(rt, text(path)?)?;
+// What stands at a path. It is an error where the system does not say, or the path is too long to be asked for.
+pub fn look_at(rt: &impl Files, path: &[u8]) -> io::Result<Standing> {
+    if PATH_MAX <= path.len() {
+        return Err(too_long());
+    }
+    let found = match fs::metadata(rt, text(path)?) {
+        Err(why) if why.kind() == ErrorKind::NotFound => return Ok(Standing::Missing),
+        asked => asked?,
+    };
     let file = File {
         device: found.dev(),
         number: found.ino(),
@@ -54,42 +60,17 @@ fn look(rt: &impl Files, path: &[u8]) -> io::Result<Standing> {
     Ok(Standing::Other(file))
 }
 
-// What stands at a path.
-pub fn look_at(rt: &impl Files, path: &[u8]) -> Standing {
+// The text of a link, if the path is one. It is an error where a link leads to a name that is not UTF-8, or memory runs out.
+pub fn link(rt: &(impl Files + Alloc), path: &[u8]) -> io::Result<Option<Word>> {
     if PATH_MAX <= path.len() {
-        return Standing::TooLong;
-    }
-    match look(rt, path) {
-        Ok(standing) => standing,
-        Err(why) => match why.kind() {
-            ErrorKind::NotFound => Standing::Missing,
-            _ => Standing::Unknown(why),
-        },
-    }
-}
-
-// Puts the text of a link at the start of a room. The answer is its length, 0 where the path is no link. It fails where a
-// link leads to a name that is not UTF-8, or memory runs out.
-pub fn link(rt: &(impl Files + Alloc), path: &[u8], room: &mut [u8]) -> io::Result<usize>
-    ensures { ReadsAtMost result room.new }
-{
-    if PATH_MAX <= path.len() {
-        return Ok(0);
+        return Ok(None);
     }
     match fs::read_link(rt, text(path)?) {
-        Ok(link) => Ok(put(link.as_str().as_bytes(), room)),
-        Err(why) => match why.raw_os_error() {
-            Some(_) => Ok(0),
-            None => Err(why),
-        },
+        Err(why) if why.raw_os_error().is_some() => Ok(None),
+        read => {
+            let link = read?;
+            let word = Word::try_from(link.as_str().as_bytes()).map_err(|_| too_long())?;
+            Ok(Some(word))
+        }
     }
-}
-
-// Puts bytes at the start of a room, as far as it reaches. The answer is how many.
-fn put(bytes: &[u8], room: &mut [u8]) -> usize
-    ensures { result ≤ length room.new }
-{
-    let count = bytes.len().min(room.len());
-    room[..count].copy_from_slice(&bytes[..count]);
-    count
 }

@@ -4,8 +4,6 @@
 mod values;
 
 use arguments::Options;
-use byte_parts::front;
-use files::Reading;
 use report::System;
 use sensor_record::ReadRecord;
 use std::io;
@@ -25,8 +23,8 @@ fn print(rt: &impl Print, bytes: &[u8]) -> io::Result<()> {
 
 pub fn run(rt: &(impl System + Env + Files), options: Options) -> io::Result<()> {
     let mut room = [0u8; ROOM];
-    let Reading::Held(n) = files::read(rt, options.first, &mut room) else {
-        return Ok(());
-    };
-    print(rt, front(&room, n))
+    match files::read(rt, options.first, &mut room) {
+        Some(bytes) => print(rt, bytes),
+        None => Ok(()),
+    }
 }

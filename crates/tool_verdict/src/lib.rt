@@ -2,7 +2,7 @@
 #![tactic(auto)]
 
 use loader::{Loader, Mode, Reply};
-use refusal::Refusal;
+use refusal::{Refusal, Refused};
 use report::{Line, System};
 use std::io;
 use tool_words::{cause, entry, lines, packets, place};
@@ -19,35 +19,44 @@ pub struct Behind {
 // A loader behind the packets of a run, none of which started the firmware: where one has succeeded it is
 // unlocked, as a locked one takes the password only.
 fn loader_behind(behind: Behind) -> Loader {
-    if behind.packets == 0 {
-        return Loader {
-            mode: Mode::Locked,
-            expected: behind.expected,
-        };
-    }
     Loader {
-        mode: Mode::Unlocked,
+        mode: match behind.packets {
+            0 => Mode::Locked,
+            _ => Mode::Unlocked,
+        },
         expected: behind.expected,
     }
 }
 
 // Says what the loader answers to a packet.
 fn answered(rt: &impl Print, reply: Reply) -> io::Result<()> {
-    let line = Line::new().text(b"the loader answers ");
+    let line = Line::new().text("the loader answers ");
     match reply {
-        Reply::Nothing => line.text(b"nothing").print(rt),
+        Reply::Nothing => line.text("nothing").print(rt),
         Reply::Byte(code) => packets::acknowledgement(line, code).print(rt),
-        Reply::Message(code) => packets::message(line.text(b"00 and message "), code).print(rt),
-        Reply::Data(_) => line.text(b"00 and data").print(rt),
+        Reply::Message(code) => packets::message(line.text("00 and message "), code).print(rt),
+        Reply::Data(_) => line.text("00 and data").print(rt),
     }
 }
 
 // A line with a place of the script, and the number and the command of the packet there.
 fn in_script(script: &[u8], at: usize, packets: usize) -> Line {
     let line = cause::place(at)
-        .text(b": packet ")
-        .decimal(packets % 4294967296 + 1);
-    packets::command_at(line.text(b", command "), script, at)
+        .text(": packet ")
+        .decimal(packets.saturating_add(1));
+    packets::command_at(line.text(", command "), script, at)
+}
+
+// Whether a refusal is of a run, which has a place in the script and leaves bytes unknown.
+fn is_of_run(refusal: Refusal) -> bool {
+    matches!(
+        refusal,
+        Refusal::PacketCut
+            | Refusal::RefusedOverZeros
+            | Refusal::PictureDiffers
+            | Refusal::BytesAfterStart
+            | Refusal::NotStarted
+    )
 }
 
 // Says what stands at the place of a refusal.
@@ -55,80 +64,54 @@ fn located(
     rt: &impl Print,
     script: &[u8],
     text: &[u8],
-    refusal: Refusal,
-    at: usize,
+    refused: Refused,
     packets: usize,
 ) -> io::Result<()> {
-    match refusal {
-        Refusal::PacketCut
-        | Refusal::RefusedOverZeros
-        | Refusal::PictureDiffers
-        | Refusal::BytesAfterStart => in_script(script, at, packets).print(rt),
-        Refusal::NotStarted => cause::place(at).text(b": the end of the script").print(rt),
-        _ => place::located(rt, text, refusal, at),
+    let Refused { refusal, place: at } = refused;
+    if refusal == Refusal::NotStarted {
+        return cause::place(at).text(": the end of the script").print(rt);
     }
-}
-
-// Says why a packet is refused over a region: what the loader answers to it there.
-fn explained(
-    rt: &impl Print,
-    refusal: Refusal,
-    packet: &[u8],
-    password: &[u8],
-    behind: Behind,
-    region: &mut [u8],
-) -> io::Result<()> {
-    match refusal {
-        Refusal::RefusedOverZeros => {
-            let received = loader::receive(loader_behind(behind), region, password, packet);
-            let reply = received.reply;
-            answered(rt, reply)
-        }
-        _ => Ok(()),
+    if is_of_run(refusal) {
+        return in_script(script, at, packets).print(rt);
     }
+    place::located(rt, text, refused)
 }
 
 // Says that a script passes.
 pub fn passed(rt: &impl System, script: &[u8], text: &[u8], behind: Behind) -> io::Result<()> {
-    Line::new().text(b"pass").print(rt)?;
-    lines::number(rt, b"packets ", behind.packets)?;
-    lines::checksum(rt, b"expected checksum ", behind.expected)?;
+    Line::new().text("pass").print(rt)?;
+    lines::number(rt, "packets ", behind.packets)?;
+    lines::checksum(rt, "expected checksum ", behind.expected)?;
     entry::print(rt, text, packets::last_address(script))?;
     Line::new()
         .text(
-            b"after a power cut: send 31; if the card answers 02, send 32; then send the whole script again",
+            "after a power cut: send 31; if the card answers 02, send 32; then send the whole script again",
         )
         .print(rt)
 }
 
-// Says how many bytes were still unknown where a run ended. A refusal before the run leaves nothing to say.
-fn unknown(rt: &impl Print, refusal: Refusal, bytes: usize) -> io::Result<()> {
-    match refusal {
-        Refusal::PacketCut
-        | Refusal::RefusedOverZeros
-        | Refusal::PictureDiffers
-        | Refusal::BytesAfterStart
-        | Refusal::NotStarted => lines::number(rt, b"bytes still unknown ", bytes),
-        _ => Ok(()),
-    }
-}
-
 // Says that a script is refused: why, where, what the loader answers there over the region that the check left, how
-// many packets succeeded, and how many bytes were still unknown.
+// many packets succeeded, and how many bytes were still unknown. A refusal before the run leaves nothing to say of those.
 pub fn refused(
     rt: &impl Print,
     script: &[u8],
     text: &[u8],
     password: &[u8],
-    refusal: Refusal,
-    at: usize,
+    refused: Refused,
     behind: Behind,
     region: &mut [u8],
 ) -> io::Result<()> {
+    let Refused { refusal, place: at } = refused;
     cause::refused(rt, refusal)?;
-    located(rt, script, text, refusal, at, behind.packets)?;
-    let packet = packets::packet_at(script, at);
-    explained(rt, refusal, packet, password, behind, region)?;
-    lines::number(rt, b"packets that succeeded ", behind.packets)?;
-    unknown(rt, refusal, behind.unknown)
+    located(rt, script, text, refused, behind.packets)?;
+    if refusal == Refusal::RefusedOverZeros {
+        let packet = packets::packet_at(script, at);
+        let received = loader::receive(loader_behind(behind), region, password, packet);
+        answered(rt, received.reply)?;
+    }
+    lines::number(rt, "packets that succeeded ", behind.packets)?;
+    if is_of_run(refusal) {
+        lines::number(rt, "bytes still unknown ", behind.unknown)?;
+    }
+    Ok(())
 }

@@ -3,20 +3,16 @@ use report::Line;
 use std::io;
 
 // Prints a number behind its name.
-pub fn number(rt: &impl Print, name: &[u8], n: usize) -> io::Result<()> {
+pub fn number(rt: &impl Print, name: &str, n: usize) -> io::Result<()> {
     Line::new().text(name).decimal(n).print(rt)
 }
 
 // Prints a number of bytes behind what they are.
-pub fn bytes(rt: &impl Print, what: &[u8], n: usize) -> io::Result<()> {
-    Line::new().text(what).count(n, b"byte").print(rt)
+pub fn bytes(rt: &impl Print, what: &str, n: usize) -> io::Result<()> {
+    Line::new().text(what).count(n, "byte").print(rt)
 }
 
 // Prints a checksum behind its name.
-pub fn checksum(rt: &impl Print, name: &[u8], sum: u16) -> io::Result<()> {
-    Line::new()
-        .text(name)
-        .text(b"0x")
-        .code(sum as usize, 4)
-        .print(rt)
+pub fn checksum(rt: &impl Print, name: &str, sum: u16) -> io::Result<()> {
+    Line::new().text(name).checksum(sum).print(rt)
 }

@@ -1,13 +1,13 @@
 // The packets of a script, in words.
 ghost use Rattle.std.specs.Prelude.{◌-◌, ◌≤◌, length};
+ghost use Rattle.std.specs.Iterator.{at_most};
 
-use byte_parts::{behind, front, line_of};
-use little_endian::byte_at;
+use byte_parts::{behind, front};
 use packet::Command;
 use report::Line;
 
 // The length of a script's head.
-pub const HEAD: usize = 5;
+const HEAD: usize = 5;
 
 // Where the columns of a list of packets begin: offset, command, and what stands behind it. The number of a packet ends
 // before the column that comes next.
@@ -17,13 +17,59 @@ const COMMAND: usize = 30;
 
 pub const BEHIND: usize = 49;
 
-// How many packets a script has, the offset of the last of them, and the offset where its framing ends: the
-// script's end, or the start of a packet that is cut.
+// A packet of a script: its number, from 1, its offset, and its bytes.
+#[derive(Clone, Copy)]
+pub struct Packet<'a> {
+    pub number: usize,
+    pub at: usize,
+    pub bytes: &'a [u8],
+}
+
+// The packets of a script behind its head, one after the other, as far as it holds them whole.
 #[derive(Drop)]
-pub struct Framed {
-    pub packets: usize,
-    pub last: usize,
-    pub end: usize,
+pub struct Packets<'a> {
+    script: &'a [u8],
+    number: usize,
+    at: usize,
+}
+
+impl<'a> Packets<'a> {
+    pub fn of(script: &'a [u8]) -> Packets<'a> {
+        Packets {
+            script,
+            number: 0,
+            at: HEAD,
+        }
+    }
+}
+
+impl<'a> Iterator for Packets<'a> {
+    type Item = Packet<'a>;
+
+    // Each packet takes at least one byte of the script.
+    ghost remaining = { λ p. at_most (length p.script.now - p.at) };
+
+    fn next(&mut self) -> Option<Packet<'a>> {
+        let bytes = packet_at(self.script, self.at);
+        if bytes.is_empty() {
+            return None;
+        }
+        let packet = Packet {
+            number: self.number.saturating_add(1),
+            at: self.at,
+            bytes,
+        };
+        self.number = packet.number;
+        self.at += bytes.len();
+        Some(packet)
+    }
+}
+
+impl<'a> Packet<'a> {
+    // The offset behind the packet.
+    fn end(self) -> usize {
+        self.at.saturating_add(self.bytes.len())
+    }
 }
 
 // The packet that a script has at an offset, nothing where the script ends before it does.
@@ -34,92 +80,67 @@ pub fn packet_at(script: &[u8], at: usize) -> &[u8]
     front(rest, script::front(rest))
 }
 
-// The framing of what stands behind a script's head.
-pub fn framing(script: &[u8]) -> Framed {
-    let mut packets = 0;
-    let mut last = HEAD;
-    let mut end = HEAD;
-    while end < script.len() {
-        let length = packet_at(script, end).len();
-        if length == 0 {
-            return Framed { packets, last, end };
-        }
-        last = end;
-        end += length;
-        packets += 1;
-    }
-    Framed { packets, last, end }
+// How many packets a script has.
+pub fn count(script: &[u8]) -> usize {
+    Packets::of(script).count()
+}
+
+// The offset where the framing of a script ends: the script's end, or the start of a packet that is cut.
+pub fn end(script: &[u8]) -> usize {
+    Packets::of(script)
+        .last()
+        .map_or(HEAD, |packet| packet.end())
 }
 
 // The address in the last packet of a script.
 pub fn last_address(script: &[u8]) -> usize {
-    let framing = framing(script);
-    packet::address(packet::core(packet_at(script, framing.last)))
+    Packets::of(script)
+        .last()
+        .map_or(0, |packet| packet::address(packet::core(packet.bytes)))
 }
 
-// The words of a list for a code: each of its lines is a code and words. Nothing where it has none.
-fn words_for(code: u8, list: &[u8]) -> &[u8] {
-    for i in 0..list.len() {
-        let entry = line_of(list, i);
-        if byte_at(entry, 0) == code {
-            return behind(entry, 1);
-        }
+// The name of a command by its code.
+fn name_of(code: u8) -> Option<&'static str> {
+    match code {
+        0x21 => Some(" password"),
+        0x15 => Some(" erase"),
+        0x20 => Some(" write"),
+        0x26 => Some(" range checksum"),
+        0x27 => Some(" start"),
+        _ => None,
     }
-    front(list, 0)
 }
 
 // A line with the code of a command behind it, and its name.
 fn coded(line: Line, code: u8) -> Line {
-    let name = words_for(
-        code,
-        b"\x21 password
-\x15 erase
-\x20 write
-\x26 range checksum
-\x27 start
-",
-    );
-    let written = line.code(code as usize, 2).text(name);
-    if name.len() == 0 {
-        return written.text(b" unknown");
-    }
-    written
-}
-
-// A line with a code behind it whose core is no row of document 01's table of commands.
-fn without_row(line: Line, code: u8) -> Line {
-    let named = coded(line, code);
-    match code {
-        0x21 | 0x15 | 0x20 | 0x26 | 0x27 => named.text(b", wrong length"),
-        _ => named,
-    }
+    line.code(code).text(name_of(code).unwrap_or(" unknown"))
 }
 
 // A line with the command of a packet behind it.
 pub fn command(line: Line, packet: &[u8]) -> Line {
     let core = packet::core(packet);
-    let code = byte_at(core, 0);
-    if core.len() == 0 {
-        return line.text(b"none");
-    }
+    let Some(&code) = core.first() else {
+        return line.text("none");
+    };
+    let named = coded(line, code);
     match packet::command_of(core) {
-        Command::Unknown => without_row(line, code),
-        _ => coded(line, code),
+        Command::Unknown if name_of(code).is_some() => named.text(", wrong length"),
+        _ => named,
     }
 }
 
 // A line with the command of a packet behind it that its script does not hold whole.
 fn cut(line: Line, packet: &[u8]) -> Line {
-    if packet.len() < 4 {
-        return line.text(b"not there, cut");
+    match packet.get(3) {
+        Some(&code) => coded(line, code).text(", cut"),
+        None => line.text("not there, cut"),
     }
-    coded(line, byte_at(packet, 3)).text(b", cut")
 }
 
 // A line with the command of the packet at an offset of a script behind it.
 pub fn command_at(line: Line, script: &[u8], at: usize) -> Line {
     let packet = packet_at(script, at);
-    if packet.len() == 0 {
+    if packet.is_empty() {
         return cut(line, behind(script, at));
     }
     command(line, packet)
@@ -127,49 +148,45 @@ pub fn command_at(line: Line, script: &[u8], at: usize) -> Line {
 
 // A line with the acknowledgement of a packet behind it, and what it says.
 pub fn acknowledgement(line: Line, code: u8) -> Line {
-    let words = words_for(
-        code,
-        b"\x51 does not begin with 80
-\x52 checksum wrong
-\x53 core length 0
-\x54 core length above 261
-\x55 length wrong
-",
-    );
-    line.code(code as usize, 2).text(words)
+    line.code(code).text(match code {
+        0x51 => " does not begin with 80",
+        0x52 => " checksum wrong",
+        0x53 => " core length 0",
+        0x54 => " core length above 261",
+        0x55 => " length wrong",
+        _ => "",
+    })
 }
 
 // A line with a message of the loader behind it, and what it says.
 pub fn message(line: Line, code: u8) -> Line {
-    let words = words_for(
-        code,
-        b"\x00 done
-\x01 outside the region, not writable, or not to be started
-\x04 locked
-\x05 wrong password
-\x07 unknown command or wrong core length
-",
-    );
-    line.code(code as usize, 2).text(words)
+    line.code(code).text(match code {
+        0x00 => " done",
+        0x01 => " outside the region, not writable, or not to be started",
+        0x04 => " locked",
+        0x05 => " wrong password",
+        0x07 => " unknown command or wrong core length",
+        _ => "",
+    })
 }
 
 // The heading of a list of packets, as far as every list has it.
 pub fn heading() -> Line {
     Line::new()
-        .text(b"packet")
+        .text("packet")
         .to(OFFSET)
-        .text(b"offset")
+        .text("offset")
         .to(COMMAND)
-        .text(b"command")
+        .text("command")
 }
 
 // The line of a packet, as far as every list has it: its number, its offset and its command.
-pub fn row(number: usize, at: usize, packet: &[u8]) -> Line {
+pub fn row(packet: Packet<'_>) -> Line {
     let line = Line::new()
-        .right(number, OFFSET - 3)
+        .right(packet.number, OFFSET - 3)
         .to(OFFSET)
-        .decimal(at)
-        .text(b" (")
-        .hex(at);
-    command(line.text(b")").to(COMMAND), packet)
+        .decimal(packet.at)
+        .text(" (")
+        .hex(packet.at);
+    command(line.text(")").to(COMMAND), packet.bytes)
 }

@@ -1,11 +1,10 @@
 // How the program is used, and its version.
-use arguments::Command;
 use report::System;
 use std::io;
 
 // The usage.
-fn usage() -> &'static [u8] {
-    b"usage: cardtool plan FIRMWARE.txt SCRIPT.bsx [--password FILE] [--entry HEX] [--size BYTES] [--force]
+const USAGE: &str =
+    "usage: cardtool plan FIRMWARE.txt SCRIPT.bsx [--password FILE] [--entry HEX] [--size BYTES] [--force]
        cardtool check SCRIPT.bsx FIRMWARE.txt [--password FILE] [--size BYTES] [--expect HEX]
        cardtool cuts SCRIPT.bsx FIRMWARE.txt [--region FILE] [--password FILE] [--size BYTES] [--expect HEX]
        cardtool show SCRIPT.bsx
@@ -35,18 +34,19 @@ record   prints a sensor record of 64 bytes
 An option's value may follow an equals sign: --size=4096.
 
 Exit status: 0 pass or success, 1 refused, 2 wrong usage, or a file that cannot be read or written.
-"
+";
+
+// Says how the program is used.
+pub fn print(rt: &impl Print) -> io::Result<()> {
+    rt.print(USAGE)
 }
 
-// Answers a command about the program itself: the usage or the version, or the usage where no command was given.
-pub fn answer(rt: &impl System, command: Command) -> io::Result<()> {
-    match command {
-        Command::Version => rt.write_all(b"cardtool 0.4.0\n"),
-        Command::Help => rt.write_all(usage()),
-        Command::Wrong => {
-            rt.complain(usage());
-            Ok(())
-        }
-        _ => Ok(()),
-    }
+// Says the version of the program.
+pub fn print_version(rt: &impl Print) -> io::Result<()> {
+    rt.println("cardtool 0.4.0")
+}
+
+// Says on standard error how the program is used, where it was used wrongly.
+pub fn complain(rt: &impl System) {
+    rt.complain(USAGE.as_bytes());
 }

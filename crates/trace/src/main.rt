@@ -2,28 +2,18 @@
 // more is read than an input may have, so that a longer one is seen.
 #![tactic(auto)]
 
+use byte_parts::front;
 use std::io;
 use std::io::Read;
-use trace_text::Traced;
 
 // How many bytes of the input are read.
 const INPUT: u64 = 16385;
-
-// Writes the first n bytes of a text; it has as many.
-fn show(rt: &impl Print, text: &[u8], n: usize) -> io::Result<()> {
-    if text.len() < n {
-        return Ok(());
-    }
-    rt.write_all(&text[..n])
-}
 
 fn main(rt: HostRuntime) -> io::Result<()> {
     let mut input = Vec::new(rt.alloc());
     rt.reader().take(INPUT).read_to_end(&mut input)?;
     let mut text = [0u8; trace_text::ROOM];
-    match trace_text::write(&input, &mut text) {
-        // the text has the room
-        Traced::Refused(_) => Ok(()),
-        Traced::Written(length) => show(&rt, &text, length),
-    }
+    // the text has the room, so that none is refused
+    let length = trace_text::write(&input, &mut text).unwrap_or(0);
+    rt.write_all(front(&text, length))
 }

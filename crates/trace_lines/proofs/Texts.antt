@@ -1,15 +1,15 @@
--- How long the parts of a line are at most, how lines are put together, and what stands in one that holds a text.
+-- A number in decimal as the library writes it, and how long the parts of a line are at most.
 -- Assumes nothing.
-use mathlib.Core.Path.{◌≡◌, sym, ap, ap₂, ◌∙◌}
-use mathlib.Core.Bool.{Bool, true, false, cond}
-use mathlib.Core.List.{List, [], ◌∷◌, ◌++◌, append_assoc}
-use Prim.Native.Nat.{ℕ, zero, suc, ◌+◌, ◌/◌, ◌%◌, ◌≤◌}
+use mathlib.Core.Path.{◌≡◌, refl}
+use mathlib.Core.List.{List, [], ◌∷◌, ◌++◌}
+use Prim.Native.Nat.{ℕ, zero, suc, ◌/◌, ◌%◌, ◌^◌, ◌<◌, ◌≤◌}
 use native.Mathlib.Omega.{arith}
+use borrow.Author.Tests.{lt-ltb, ltb-true, ltb-false}
 use lib.Dec.{ltb}
-use lib.ListN.{length, get_or, take, drop, replicate, length-append, length-replicate}
-use lib.Seq.{take_at}
+use lib.ListN.{length, get_or, length-append}
+use Rattle.std.specs.Fmt.{decimal as written}
+use Rattle.std.proofs.lemmas.Fmt.{decimal_digit, decimal_step}
 use Rattle.crc.specs.Crc.{checksum_of}
-use Rattle.little_endian.proofs.Stored.{stored-between}
 use Rattle.packet.specs.Packet.{core_of}
 use Rattle.power_cut.specs.Cut.{restarted_of}
 use Rattle.loader.specs.declared.Loader.{Loader}
@@ -17,94 +17,86 @@ use Rattle.loader.specs.declared.Mode.{Mode}
 use Rattle.loader.specs.declared.Mode.TheVariants.{Application, Locked, Unlocked}
 use Rattle.loader.specs.declared.Reply.{Reply}
 use Rattle.loader.specs.declared.Reply.TheVariants.{Nothing, Byte, Message, Data}
-use Rattle.trace_lines.specs.Lines.{ascii, digit, decimals, decimal, fields, line_of, mode_name, word_of, end_line, four_digits, cut_line, Holds}
+use Rattle.test_laws.proofs.Tests.{on-cond}
+use Rattle.trace_lines.specs.Lines.{ascii, digit, decimals, decimal, fields, line_of, mode_name, word_of, end_line, four_digits, cut_line}
 use Rattle.trace_lines.specs.declared.Ending.{Ending}
 use Rattle.trace_lines.specs.declared.Ending.TheVariants.{InMode, Cut, Long, Mark}
-use Rattle.trace_lines.specs.declared.Line.{Line}
 
--- a choice is no longer than both
-pub either-short : (test : Bool) (x y : List ℕ) (k : ℕ) → length x ≤ k → length y ≤ k → length (cond test x y) ≤ k
-either-short true x y k hx hy = hx
-either-short false x y k hx hy = hy
+-- a number in decimal is what the library writes of it
+decimals-written : (more n : ℕ) → n < 10 ^ suc more → n < 2 ^ 64 → decimals more n ≡ written n
+unfolding decimals digit
+decimals-written zero n few fits =
+    let small : n < 10 = omega (arith, few) in
+    rw (decimal_digit n small, lt-ltb n 10 small) refl
+decimals-written (suc more) n few fits =
+    on-cond (λ (l : List ℕ). l ≡ written n) (ltb n 10) (digit n ∷ []) (decimals more (n / 10) ++ (digit (n % 10) ∷ []))
+    (λ e. rw (e, decimal_digit n (ltb-true n 10 e)) refl)
+    (λ e.
+    let last : n % 10 < 10 = omega arith in
+    rw (lt-ltb (n % 10) 10 last, decimal_step n (ltb-false n 10 e) fits, decimals-written more (n / 10) (omega (arith, few)) (omega (arith, fits))) refl)
+
+pub decimal_written : (n : ℕ) → n < 2 ^ 16 → decimal n ≡ written n
+decimal_written n few = decimals-written 4 n (omega (arith, few)) (omega (arith, few))
 
 decimals-short : (more n : ℕ) → length (decimals more n) ≤ suc more
 unfolding decimals
 decimals-short zero n = omega arith
 decimals-short (suc more) n =
-    either-short (ltb n 10) (digit n ∷ []) (decimals more (n / 10) ++ (digit (n % 10) ∷ [])) (suc (suc more)) (omega arith)
-    (rw (length-append (decimals more (n / 10)) (digit (n % 10) ∷ [])) (omega (arith, decimals-short more (n / 10))))
+    on-cond (λ (l : List ℕ). length l ≤ suc (suc more)) (ltb n 10) (digit n ∷ []) (decimals more (n / 10) ++ (digit (n % 10) ∷ [])) (λ e. omega arith)
+    (λ e. omega (arith, length-append (decimals more (n / 10)) (digit (n % 10) ∷ []), decimals-short more (n / 10)))
 
--- an offset and the space behind it
-pub offset-short : (n : ℕ) → length (decimal n ++ ascii " ") ≤ 6
-offset-short n = rw (length-append (decimal n) (ascii " ")) (omega (arith, decimals-short 4 n))
+pub decimal_short : (n : ℕ) → length (decimal n) ≤ 5
+decimal_short = decimals-short 4
 
--- the fields of a line and its end
-pub fields-short : (command : ℕ) (reply : Reply) → length (fields command reply ++ ascii "\n") ≤ 11
+fields-short : (command : ℕ) (reply : Reply) → length (fields command reply) ≤ 10
 unfolding fields
 fields-short command Nothing = omega arith
 fields-short command (Byte ack) = omega arith
 fields-short command (Message message) = omega arith
 fields-short command (Data sum) = omega arith
 
--- the name of a mode
-pub name-short : (mode : Mode) → length (mode_name mode) ≤ 11
+name-short : (mode : Mode) → length (mode_name mode) ≤ 11
 name-short Application = omega arith
 name-short Locked = omega arith
 name-short Unlocked = omega arith
 
--- the last word of the end line
-pub word-short : (ending : Ending) → length (word_of ending) ≤ 11
+word-short : (ending : Ending) → length (word_of ending) ≤ 11
 word-short (InMode mode) = name-short mode
 word-short Cut = omega arith
 word-short Long = omega arith
 word-short Mark = omega arith
 
-module _ (at : ℕ) (packet : List ℕ) (reply : Reply) where
-  -- a line as it is put: the offset, then the fields
-  pub line-parts : line_of at packet reply ≡ (decimal at ++ ascii " ") ++ (fields (get_or (core_of packet) 0 0) reply ++ ascii "\n")
-  line-parts = sym (append_assoc (decimal at) (ascii " ") (fields (get_or (core_of packet) 0 0) reply ++ ascii "\n"))
+pub line-short : (at : ℕ) (packet : List ℕ) (reply : Reply) → length (line_of at packet reply) ≤ 17
+line-short at packet reply =
+    let command : ℕ = get_or (core_of packet) 0 0 in
+    omega (
+      arith,
+      length-append (decimal at) (ascii " " ++ (fields command reply ++ ascii "\n")),
+      length-append (fields command reply) (ascii "\n"),
+      decimal_short at,
+      fields-short command reply,
+    )
 
-  pub line-short : length (line_of at packet reply) ≤ 17
-  line-short =
-      rw (line-parts, length-append (decimal at ++ ascii " ") (fields (get_or (core_of packet) 0 0) reply ++ ascii "\n"))
-      (omega (arith, offset-short at, fields-short (get_or (core_of packet) 0 0) reply))
+pub cut_short : (at place : ℕ) (loader : Loader) (region : List ℕ) → length (cut_line at place loader region) ≤ 29
+cut_short at place loader region =
+    let mode : Mode = (restarted_of loader region).mode in
+    let sum : List ℕ = ascii " " ++ (four_digits (checksum_of region) ++ ascii "\n") in
+    omega (
+      arith,
+      length-append (decimal at) (ascii " " ++ (decimal place ++ (ascii " " ++ (mode_name mode ++ sum)))),
+      length-append (decimal place) (ascii " " ++ (mode_name mode ++ sum)),
+      length-append (mode_name mode) sum,
+      decimal_short at,
+      decimal_short place,
+      name-short mode,
+    )
 
-cut-joined : (a s b m w : List ℕ) → a ++ (s ++ (b ++ (s ++ (m ++ w)))) ≡ (((a ++ s) ++ (b ++ s)) ++ m) ++ w
-cut-joined a s b m w = simp append_assoc
-
-module _ (at place : ℕ) (loader : Loader) (region : List ℕ) where
-  abbrev sum : List ℕ
-  sum = ascii " " ++ (four_digits (checksum_of region) ++ ascii "\n")
-
-  -- the line of a cut as it is put: offset, place, mode, checksum
-  pub cut_parts : cut_line at place loader region ≡ (((decimal at ++ ascii " ") ++ (decimal place ++ ascii " ")) ++ mode_name (restarted_of loader region).mode) ++ sum
-  cut_parts = cut-joined (decimal at) (ascii " ") (decimal place) (mode_name (restarted_of loader region).mode) sum
-
-  pub cut_short : length (cut_line at place loader region) ≤ 29
-  cut_short =
-      let x = decimal at ++ ascii " " in
-      let y = decimal place ++ ascii " " in
-      let z = mode_name (restarted_of loader region).mode in
-      let parts = ap length cut_parts ∙ length-append ((x ++ y) ++ z) sum in
-      omega (arith, parts, length-append (x ++ y) z, length-append x y, offset-short at, offset-short place, name-short (restarted_of loader region).mode)
-
-end-joined : (e a s w l : List ℕ) → e ++ (a ++ (s ++ (w ++ l))) ≡ ((e ++ (a ++ s)) ++ w) ++ l
-end-joined e a s w l = simp append_assoc
-
-module _ (at : ℕ) (ending : Ending) where
-  -- the end line as it is put: `end`, the offset, the word, and the line end
-  pub end-parts : end_line at ending ≡ ((ascii "end " ++ (decimal at ++ ascii " ")) ++ word_of ending) ++ ascii "\n"
-  end-parts = end-joined (ascii "end ") (decimal at) (ascii " ") (word_of ending) (ascii "\n")
-
-  pub end_short : length (end_line at ending) ≤ 22
-  end_short =
-      let x = ascii "end " ++ (decimal at ++ ascii " ") in
-      let parts = ap length end-parts ∙ length-append (x ++ word_of ending) (ascii "\n") in
-      omega (arith, parts, length-append x (word_of ending), offset-short at, word-short ending)
-
--- the text of a line stands at its front
-pub text_in : (line : Line) (text : List ℕ) → Holds line text → length text ≤ 32 → take line.length line.bytes ≡ text
-text_in line text h short =
-    let zeros : List ℕ = replicate 32 0 in
-    let front : 0 + length text ≤ length zeros = rw (length-replicate {A = ℕ} 32 0) (omega arith) in
-    ap₂ (λ (n : ℕ) (l : List ℕ). take n l) h.0 (h.1 ∙ stored-between 0 text zeros front) ∙ take_at text (drop (0 + length text) zeros) (0 + length text) (omega arith)
+pub end_short : (at : ℕ) (ending : Ending) → length (end_line at ending) ≤ 22
+end_short at ending =
+    omega (
+      arith,
+      length-append (decimal at) (ascii " " ++ (word_of ending ++ ascii "\n")),
+      length-append (word_of ending) (ascii "\n"),
+      decimal_short at,
+      word-short ending,
+    )

@@ -2,15 +2,17 @@
 -- Assumes nothing.
 use mathlib.Core.Path.{◌≡◌, refl, sym, ap, ◌∙◌, subst}
 use mathlib.Core.Bool.{Bool, true, false, false≢true, not, ◌||◌}
-use mathlib.Core.List.{List, [], ◌∷◌, ◌++◌, append_assoc}
+use mathlib.Core.List.{List, [], ◌∷◌, ◌++◌, append_assoc, append-nil}
 use Prim.Native.Nat.{ℕ, zero, suc, ◌+◌, ◌*◌, ◌-◌, ◌≤◌, ◌<◌}
 use mathlib.Core.Logic.{⊎_elim}
-use native.Mathlib.Nat.{min-le_right, le_of_suc-le-suc, eq-or-lt_of_le}
+use native.Mathlib.Nat.{zero-add, min-le_right, le_of_suc-le-suc, eq-or-lt_of_le}
+use native.Mathlib.Numerals.{add-one}
 use native.Mathlib.Omega.{arith}
 use borrow.Author.Tests.{eqb-true, ltb-false}
+use Rattle.std.specs.Prelude.{None}
 use lib.Dec.{eqb, ltb}
-use lib.ListN.{length, take, drop, replicate, length-take, length-drop, length-append, length-replicate}
-use lib.Seq.{drop-drop, length-take-le}
+use lib.ListN.{length, take, drop, replicate, length-take, length-drop, length-append, length-replicate, drop_of_length-le}
+use lib.Seq.{take_all, drop-drop, length-take-le}
 use Rattle.packet.specs.Packet.{core_length, core_of, command_of}
 use Rattle.packet.specs.declared.Command.{Command}
 use Rattle.packet.specs.declared.Command.TheVariants.{Password, Erase, Write, RangeChecksum, Start, Unknown}
@@ -23,15 +25,13 @@ use Rattle.loader.specs.declared.Mode.TheVariants.{Application, Locked, Unlocked
 use Rattle.script.specs.Script.{headed, frame_length, front_of, packet_before, frames_of, Framed}
 use Rattle.script.proofs.Framing.{frames-end, frames-next, frames-few, frames-cut, front_cut}
 use Rattle.test_laws.proofs.Tests.{on-cond}
-use Rattle.little_endian.specs.Bytes.{PutBehind, joined}
-use Rattle.little_endian.proofs.Stored.{put_then}
-use Rattle.trace_text.specs.Trace.{cut_lines, packet_lines, ending_of, lines_from, lines_at, locked, body_of, text_of, cuts_of}
+use Rattle.little_endian.specs.Bytes.{PutBehind, stored_at, joined}
+use Rattle.little_endian.proofs.Stored.{put_then, stored-nothing, stored-between, stored-length}
+use Rattle.trace_text.specs.Trace.{Kind, Trace, Cuts, cut_lines, packet_lines, ending_of, lines_from, lines_at, locked, body_of, text_of, cuts_of}
 use Rattle.trace_lines.specs.Lines.{ascii, line_of, end_line, cut_line}
-use Rattle.trace_lines.proofs.Texts.{either-short, line-short, cut_short, end_short}
+use Rattle.trace_lines.proofs.Texts.{line-short, cut_short, end_short}
 use Rattle.trace_lines.specs.declared.Ending.{Ending}
 use Rattle.trace_lines.specs.declared.Ending.TheVariants.{InMode, Cut, Long, Mark}
-use Rattle.trace_text.specs.declared.Kind.{Kind}
-use Rattle.trace_text.specs.declared.Kind.TheVariants.{Trace, Cuts}
 
 -- the firmware started, or nothing is left
 abbrev pub over : Mode → List ℕ → Bool
@@ -92,7 +92,7 @@ module _ (kind : Kind) (password : List ℕ) (loader : Loader) (region : List �
             ap (λ (l : List ℕ). lines_at kind password loader region at (frames_of l)) none ∙ unpacked kind password loader region at [] (omega arith)
 
     -- the trace ends inside a packet
-    pub lines_cut : over loader.mode bytes ≡ false → front_of bytes ≡ 0 → lines_at kind password loader region at (frames_of bytes) ≡ end_line at Cut
+    pub lines_cut : over loader.mode bytes ≡ false → front_of bytes ≡ None → lines_at kind password loader region at (frames_of bytes) ≡ end_line at Cut
     lines_cut e none = unpacked kind password loader region at bytes (front_cut bytes none) ∙ ap (end_line at) (cut-ending loader.mode bytes e)
 
     -- a packet is run
@@ -106,35 +106,75 @@ module _ (kind : Kind) (password : List ℕ) (loader : Loader) (region : List �
         ap (lines_at kind password loader region at) framed
         ∙ rw (neither (is_application loader.mode) (eqb (length bytes) 0) e, length-take-le n bytes whole, ← isl, ← isr) refl
 
--- a walk that has come to an offset: the text so far, what it was put behind, and that what is left to walk gives the rest
-pub record Reaches (kind : Kind) (whole : List ℕ) (n : ℕ) (old password script : List ℕ) (at : ℕ) (loader : Loader) (region : List ℕ) (held : ℕ) (out : List ℕ) : Type 0 where
+-- the rest of a buffer behind what it has, as it is lent on, and the buffer with a rest that came back
+abbrev pub rest_of : ℕ → List ℕ → List ℕ
+rest_of held out = take (length out - held) (drop held out)
+
+abbrev pub put_back : ℕ → (out rest : List ℕ) → List ℕ
+put_back held out rest = take held out ++ (rest ++ drop (length out - held) (drop held out))
+
+rest-is : (held : ℕ) (out : List ℕ) → rest_of held out ≡ drop held out
+rest-is held out = take_all (length out - held) (drop held out) (rw length-drop (omega arith))
+
+pub length-rest : (held : ℕ) (out : List ℕ) → length (rest_of held out) ≡ length out - held
+length-rest held out = ap length (rest-is held out) ∙ length-drop held out
+
+-- a buffer that has a text at its front
+pub record HasText (text old : List ℕ) (held : ℕ) (out : List ℕ) : Type 0 where
+  pub within : held ≤ length out
+  pub long : length out ≡ length old
+  pub put : PutBehind text 0 old held out
+
+-- no text yet
+pub none_yet : (old : List ℕ) → HasText [] old 0 old
+none_yet old = record { within = omega arith; long = refl; put = (omega arith, sym (stored-nothing 0 old)) }
+
+-- bytes put over the rest of a buffer are put behind its text
+pub put_rest : (x y old : List ℕ) (held : ℕ) (out : List ℕ) (more : ℕ) (rest : List ℕ) → HasText x old held out → PutBehind y 0 (rest_of held out) more rest
+    → length x + length y ≤ length old → HasText (x ++ y) old (held + more) (put_back held out rest)
+put_rest x y old held out more rest first second room =
+    let fits : held + length y ≤ length out = omega (arith, first.long, first.put.0) in
+    let part : 0 + length y ≤ length (drop held out) = rw (length-drop held out) (omega arith) in
+    let past : drop (length out - held) (drop held out) ≡ [] = drop_of_length-le (drop held out) {i = length out - held} (rw length-drop (omega arith)) in
+    let put : rest ≡ y ++ drop (0 + length y) (drop held out) = second.1 ∙ ap (stored_at 0 y) (rest-is held out) ∙ stored-between 0 y (drop held out) part in
+    let is : put_back held out rest ≡ stored_at held y out =
+    rw (past, append-nil) (rw put (ap (λ (l : List ℕ). take held out ++ (y ++ l)) (rw zero-add (drop-drop (length y) held out))) ∙ sym (stored-between held y out fits)) in
+    let long : length (put_back held out rest) ≡ length out = ap length is ∙ stored-length held y out fits in
+    record {
+      within = omega (arith, second.0, long, fits);
+      long = long ∙ first.long;
+      put = put_then x y 0 old held out (held + more) (put_back held out rest) first.put (omega (arith, second.0), is) (omega (arith, room));
+    }
+
+-- a walk that has come to an offset: the text so far, and that what is left to walk gives the rest
+pub record Reaches (kind : Kind) (whole old password script : List ℕ) (at : ℕ) (loader : Loader) (region : List ℕ) (held : ℕ) (out : List ℕ) : Type 0 where
   pub text : List ℕ
-  pub put : PutBehind text n old held out
+  pub has : HasText text old held out
   pub left : whole ≡ text ++ lines_at kind password loader region at (frames_of (drop at script))
 
--- the text so far is part of the whole
-pub reach-short : (kind : Kind) (whole : List ℕ) (n : ℕ) (old password script : List ℕ) (at : ℕ) (loader : Loader) (region : List ℕ) (held : ℕ) (out : List ℕ)
-    → Reaches kind whole n old password script at loader region held out → held ≤ n + length whole
-reach-short kind whole n old password script at loader region held out r =
-    let rest = lines_at kind password loader region at (frames_of (drop at script)) in
-    omega (arith, r.put.0, ap length r.left ∙ length-append r.text rest)
+module _ (kind : Kind) (whole old password script : List ℕ) (at : ℕ) (loader : Loader) (region : List ℕ) (held : ℕ) (out : List ℕ)
+    (r : Reaches kind whole old password script at loader region held out) (room : length whole ≤ length old) where
+  -- what is put last has the rest of the buffer, and makes the whole
+  pub reach-end-room : (ending : Ending) → lines_at kind password loader region at (frames_of (drop at script)) ≡ end_line at ending
+      → length (end_line at ending) ≤ length (rest_of held out)
+  reach-end-room ending e =
+      let all = ap length r.left ∙ length-append r.text (lines_at kind password loader region at (frames_of (drop at script))) in
+      omega (arith, ap length e, all, r.has.put.0, r.has.long, room, length-rest held out)
 
-module _ (kind : Kind) (whole : List ℕ) (n : ℕ) (old password script : List ℕ) (at : ℕ) (loader : Loader) (region : List ℕ) (held : ℕ) (out : List ℕ)
-    (r : Reaches kind whole n old password script at loader region held out) (room : n + length whole ≤ length old) where
-  -- what is put last makes the whole
   pub reach-end : (ending : Ending) → lines_at kind password loader region at (frames_of (drop at script)) ≡ end_line at ending
-      → (last : ℕ) (new : List ℕ) → PutBehind (end_line at ending) held out last new → PutBehind whole n old last new
-  reach-end ending e last new p =
+      → (last : ℕ) (rest : List ℕ) → PutBehind (end_line at ending) 0 (rest_of held out) last rest → HasText whole old (held + last) (put_back held out rest)
+  reach-end ending e last rest p =
       let all : whole ≡ r.text ++ end_line at ending = r.left ∙ ap (r.text ++◌) e in
-      let fits : n + (length r.text + length (end_line at ending)) ≤ length old = omega (arith, room, ap length all ∙ length-append r.text (end_line at ending)) in
-      subst (λ (text : List ℕ). PutBehind text n old last new) (sym all) (put_then r.text (end_line at ending) n old held out last new r.put p fits)
+      let fits : length r.text + length (end_line at ending) ≤ length old = omega (arith, room, ap length all ∙ length-append r.text (end_line at ending)) in
+      subst (λ (text : List ℕ). HasText text old (held + last) (put_back held out rest)) (sym all)
+      (put_rest r.text (end_line at ending) old held out last rest r.has p fits)
 
   -- one packet more
   pub reach-next : (k : ℕ) → k ≡ frame_length (drop at script) → at + k ≤ length script → over loader.mode (drop at script) ≡ false
       → (l : Loader) (g : List ℕ) → l ≡ (received_of loader region password (take k (drop at script))).loader → g ≡ (received_of loader region password (take k (drop at script))).region
-      → (next : ℕ) (new : List ℕ) → PutBehind (packet_lines kind password loader region at (take k (drop at script))) held out next new
-      → Reaches kind whole n old password script (at + k) l g next new
-  reach-next k is fits e l g isl isg next new p =
+      → (more : ℕ) (new : List ℕ) → PutBehind (packet_lines kind password loader region at (take k (drop at script))) 0 (rest_of held out) more new
+      → Reaches kind whole old password script (at + k) l g (held + more) (put_back held out new)
+  reach-next k is fits e l g isl isg more new p =
       let bytes = drop at script in
       let line = packet_lines kind password loader region at (take k bytes) in
       let rest = lines_at kind password l g (at + k) (frames_of (drop k bytes)) in
@@ -143,15 +183,15 @@ module _ (kind : Kind) (whole : List ℕ) (n : ℕ) (old password script : List 
       let parts = ap length all ∙ length-append (r.text ++ line) rest in
       record {
         text = r.text ++ line;
-        put = put_then r.text line n old held out next new r.put p (omega (arith, room, parts, length-append r.text line));
+        has = put_rest r.text line old held out more new r.has p (omega (arith, room, parts, length-append r.text line));
         left =
             all
             ∙ ap (λ (b : List ℕ). (r.text ++ line) ++ lines_at kind password l g (at + k) (frames_of b)) (drop-drop k at script);
       }
 
-  -- the lines of one packet more, and what is put so far, are part of the whole
+  -- the lines of one packet more are part of the whole
   pub reach-room : (k : ℕ) → k ≡ frame_length (drop at script) → at + k ≤ length script → over loader.mode (drop at script) ≡ false
-      → held + length (packet_lines kind password loader region at (take k (drop at script))) ≤ n + length whole
+      → length (packet_lines kind password loader region at (take k (drop at script))) ≤ length (rest_of held out)
   reach-room k is fits e =
       let bytes = drop at script in
       let ran : Outcome = received_of loader region password (take k bytes) in
@@ -159,7 +199,7 @@ module _ (kind : Kind) (whole : List ℕ) (n : ℕ) (old password script : List 
       let rest = lines_at kind password ran.loader ran.region (at + k) (frames_of (drop k bytes)) in
       let lines = lines_next kind password loader region at bytes k is (rw (length-drop at script) (omega arith)) e ran.loader ran.region refl refl in
       let all : whole ≡ r.text ++ (line ++ rest) = r.left ∙ ap (r.text ++◌) lines in
-      omega (arith, r.put.0, ap length all ∙ length-append r.text (line ++ rest), length-append line rest)
+      omega (arith, room, r.has.put.0, r.has.long, ap length all ∙ length-append r.text (line ++ rest), length-append line rest, length-rest held out)
 
 -- how long the lines of so many packets are at most, in a trace
 lines-few : (password : List ℕ) (loader : Loader) (region : List ℕ) (at : ℕ) (rest : List ℕ) (packets : List (List ℕ))
@@ -170,18 +210,19 @@ lines-few password loader region at rest (p ∷ ps) =
     let ran : Outcome = received_of loader region password p in
     let line = line_of at p ran.reply in
     let more = lines_from Trace password ran.loader ran.region (at + length p) rest ps in
-    either-short (is_application loader.mode) (end_line at (InMode loader.mode)) (line ++ more) (17 * length (p ∷ ps) + 22)
-    (omega (arith, end_short at (InMode loader.mode)))
-    (omega (arith, length-append line more, line-short at p ran.reply, lines-few password ran.loader ran.region (at + length p) rest ps))
+    on-cond (λ (l : List ℕ). length l ≤ 17 * length (p ∷ ps) + 22) (is_application loader.mode) (end_line at (InMode loader.mode)) (line ++ more)
+    (λ e. omega (arith, end_short at (InMode loader.mode)))
+    (λ e. omega (arith, length-append line more, line-short at p ran.reply, lines-few password ran.loader ran.region (at + length p) rest ps))
 
 -- how long what follows the header is at most, by the lines of the packets
 body-within : (kind : Kind) (input : List ℕ) (k : ℕ) → 22 ≤ k
     → (length input ≤ 16384 → length (lines_at kind (replicate 256 0xFF) locked (replicate 4096 0) 5 (frames_of (drop 5 input))) ≤ k) → length (body_of kind input) ≤ k
 unfolding body_of
 body-within kind input k least lines =
-    on-cond (λ l. length l ≤ k) (ltb 16384 (length input)) (end_line 0 Long) _ (λ e. omega (arith, end_short 0 Long))
-    (λ e. either-short (not (headed input)) (end_line 0 Mark) (lines_at kind (replicate 256 0xFF) locked (replicate 4096 0) 5 (frames_of (drop 5 input))) k
-    (omega (arith, end_short 0 Mark)) (lines (ltb-false 16384 (length input) e)))
+    on-cond (λ (l : List ℕ). length l ≤ k) (ltb 16384 (length input)) (end_line 0 Long) _ (λ e. omega (arith, end_short 0 Long))
+    (λ e. on-cond (λ (l : List ℕ). length l ≤ k) (not (headed input)) (end_line 0 Mark)
+    (lines_at kind (replicate 256 0xFF) locked (replicate 4096 0) 5 (frames_of (drop 5 input)))
+    (λ f. omega (arith, end_short 0 Mark)) (λ f. lines (ltb-false 16384 (length input) e)))
 
 -- no trace is longer
 pub text-short : (input : List ℕ) → length (text_of input) ≤ 55712
@@ -228,15 +269,25 @@ cut-grow at loader region packet (suc m) k h =
     (λ l. omega (arith, cut-grow at loader region packet m k (le_of_suc-le-suc l), length-append (cut_lines at loader region packet m) (cut_line at m loader (left_of packet m region))))
     (eq-or-lt_of_le h)
 
--- the line of one place more
-pub cut-next : (at : ℕ) (loader : Loader) (region packet : List ℕ) (k n : ℕ) (old : List ℕ) (held : ℕ) (out : List ℕ) (next : ℕ) (new : List ℕ)
-    → PutBehind (cut_lines at loader region packet k) n old held out → PutBehind (cut_line at k loader (left_of packet k region)) held out next new
-    → n + length (cut_lines at loader region packet (suc k)) ≤ length old → PutBehind (cut_lines at loader region packet (suc k)) n old next new
-unfolding cut_lines
-cut-next at loader region packet k n old held out next new before line room =
-    let x = cut_lines at loader region packet k in
-    let y = cut_line at k loader (left_of packet k region) in
-    put_then x y n old held out next new before line (omega (arith, room, length-append x y))
+module _ (at : ℕ) (loader : Loader) (region packet : List ℕ) (last k : ℕ) (old : List ℕ) (held : ℕ) (out : List ℕ)
+    (before : HasText (cut_lines at loader region packet k) old held out) (inside : k ≤ last) (room : length (cut_lines at loader region packet (suc last)) ≤ length old) where
+  abbrev next : List ℕ
+  next = cut_line at k loader (left_of packet k region)
+
+  fits : length (cut_lines at loader region packet k) + length next ≤ length old
+  unfolding cut_lines
+  fits = omega (arith, room, length-append (cut_lines at loader region packet k) next, cut-grow at loader region packet (suc last) (suc k) (omega (arith, inside)))
+
+  -- the line of one place more has room
+  pub cut-room : (line : List ℕ) → line ≡ next → held + length line ≤ length old
+  cut-room line is = rw is (omega (arith, before.put.0, fits))
+
+  -- and is put
+  pub cut-next : (line : List ℕ) → line ≡ next → (more : ℕ) (new : List ℕ) → PutBehind line 0 (rest_of held out) more new
+      → HasText (cut_lines at loader region packet (k + 1)) old (held + more) (put_back held out new)
+  unfolding cut_lines
+  cut-next line is more new put =
+      rw (add-one k) (put_rest (cut_lines at loader region packet k) next old held out more new before (rw is at put) fits)
 
 -- how long the lines of packets are at most, in the cuts
 cuts-few : (password : List ℕ) (loader : Loader) (region : List ℕ) (at : ℕ) (rest : List ℕ) (packets : List (List ℕ)) → Framed packets → length region ≤ 4096
@@ -249,9 +300,9 @@ cuts-few password loader region at rest (p ∷ ps) framed small =
     let line = cut_lines at loader region p places in
     let more = lines_from Cuts password ran.loader ran.region (at + length p) rest ps in
     let kept = (receive-keeps loader region password p).long in
-    either-short (is_application loader.mode) (end_line at (InMode loader.mode)) (line ++ more) (29 * length (joined (p ∷ ps)) + 22)
-    (omega (arith, end_short at (InMode loader.mode)))
-    (omega (
+    on-cond (λ (l : List ℕ). length l ≤ 29 * length (joined (p ∷ ps)) + 22) (is_application loader.mode) (end_line at (InMode loader.mode)) (line ++ more)
+    (λ e. omega (arith, end_short at (InMode loader.mode)))
+    (λ e. omega (
       arith,
       length-append line more,
       length-append p (joined ps),

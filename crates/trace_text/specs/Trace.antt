@@ -1,8 +1,9 @@
 -- The trace of a script (document 01, "Worked numbers", its last paragraph), and of the cuts of its packets (document 02, T-07).
 -- Assumes nothing.
-use Rattle.std.specs.Prelude.{cond, not, List, [], ◌∷◌, ◌++◌, ℕ, zero, suc, ◌+◌, ltb, length, drop, replicate}
+use Rattle.std.specs.Prelude.{Result, Ok, Err, cond, not, List, [], ◌∷◌, ◌++◌, ℕ, zero, suc, ◌+◌, ltb, length, drop, replicate}
 use Rattle.little_endian.specs.Bytes.{stored_at}
 use Rattle.refusal.specs.Refusal.{number_of}
+use Rattle.refusal.specs.declared.Refusal.{Refusal}
 use Rattle.power_cut.specs.Cut.{work_of, left_of}
 use Rattle.loader.specs.Loader.{Outcome, is_application, received_of}
 use Rattle.loader.specs.declared.Loader.{Loader}
@@ -12,10 +13,11 @@ use Rattle.script.specs.Script.{headed, Frames, frames_of}
 use Rattle.trace_lines.specs.Lines.{ascii, line_of, end_line, cut_line}
 use Rattle.trace_lines.specs.declared.Ending.{Ending}
 use Rattle.trace_lines.specs.declared.Ending.TheVariants.{InMode, Cut, Long, Mark}
-use Rattle.trace_text.specs.declared.Kind.{Kind}
-use Rattle.trace_text.specs.declared.Kind.TheVariants.{Trace, Cuts}
-use Rattle.trace_text.specs.declared.Traced.{Traced}
-use Rattle.trace_text.specs.declared.Traced.TheVariants.{Refused, Written}
+
+-- what is shown of a script's packets
+pub data Kind : Type 0 where
+  Trace : Kind
+  Cuts : Kind
 
 -- the lines of the cuts of a packet at so many places from 0 on
 unfoldable pub cut_lines : (at : ℕ) → Loader → (region packet : List ℕ) → (count : ℕ) → List ℕ
@@ -74,9 +76,9 @@ pub data Said : Type 0 where
   written : ℕ → Said
 
 -- what was answered, in these terms
-abbrev pub said : Traced → Said
-said (Refused why) = refused (number_of why)
-said (Written n) = written n
+abbrev pub said : Result ℕ Refusal → Said
+said (Err why) = refused (number_of why)
+said (Ok n) = written n
 
 -- what is answered, and the buffer then
 pub record Left : Type 0 where
@@ -87,16 +89,17 @@ pub record Left : Type 0 where
 abbrev pub left : Said → List ℕ → Left
 left answer buffer = record { answer = answer; buffer = buffer }
 
--- the trace put over the front of a buffer: 13 for one under 65,536 bytes, which hold every trace (`text-short`)
-unfoldable pub traced_of : (input buffer : List ℕ) → Left
-traced_of input buffer =
-    cond (ltb (length buffer) 65536)
+-- a text put over the front of a buffer: 13 for one that has less than the room asked for
+unfoldable pub put_of : (room : ℕ) → (text buffer : List ℕ) → Left
+put_of room text buffer =
+    cond (ltb (length buffer) room)
     (left (refused 13) buffer)
-    (left (written (length (text_of input))) (stored_at 0 (text_of input) buffer))
+    (left (written (length text)) (stored_at 0 text buffer))
+
+-- the trace put over the front of a buffer: 13 for one under 65,536 bytes, which hold every trace (`text-short`)
+abbrev pub traced_of : (input buffer : List ℕ) → Left
+traced_of input buffer = put_of 65536 (text_of input) buffer
 
 -- the cuts put over the front of a buffer: 13 for one under 524,288 bytes, which hold every such text (`cuts-short`)
-unfoldable pub cuts_written_of : (input buffer : List ℕ) → Left
-cuts_written_of input buffer =
-    cond (ltb (length buffer) 524288)
-    (left (refused 13) buffer)
-    (left (written (length (cuts_of input))) (stored_at 0 (cuts_of input) buffer))
+abbrev pub cuts_written_of : (input buffer : List ℕ) → Left
+cuts_written_of input buffer = put_of 524288 (cuts_of input) buffer

@@ -22,7 +22,6 @@ ghost use Rattle.zlatopysk.specs.Lent.{card_of, call_left, cut_left, restart_lef
 use application::Version;
 use card::Card;
 use loader::Loader;
-use sensor_record::{ReadRecord, WroteRecord};
 
 // The register from a start over bytes: with the start 0xFFFF their checksum.
 #[unsafe(no_mangle)]
@@ -90,18 +89,14 @@ pub extern "C" fn zlatopysk_check(
 fn card_of(mode: u8, expected: u16, version: &[u8; 3], record: &[u8; 87]) -> Card
     ensures { result ≡ card_of mode expected version.now «record».now }
 {
-    let mode = numbers::mode_of(mode);
-    let loader = Loader { mode, expected };
-    let version = Version {
-        xx: version[0],
-        yy: version[1],
-        zz: version[2],
-    };
-    let record = record_layout::values(record);
+    let [xx, yy, zz] = *version;
     Card {
-        loader,
-        version,
-        record,
+        loader: Loader {
+            mode: numbers::mode_of(mode),
+            expected,
+        },
+        version: Version { xx, yy, zz },
+        record: record_layout::values(record),
     }
 }
 
@@ -125,9 +120,7 @@ pub extern "C" fn zlatopysk_call(
 {
     let card = card_of(mode, expected, version, record);
     let after = card::call(card, size, region, password, message, reply);
-    let answer = after.answer;
-    let state = after.card;
-    *called = numbers::of_call(answer, state);
+    *called = numbers::of_call(after);
 }
 
 // A message to a card that loses its mains at a place of the message's work.
@@ -170,9 +163,7 @@ pub extern "C" fn zlatopysk_restart(
 {
     let card = card_of(mode, expected, version, record);
     let after = card::restart(card, size, region);
-    let answer = after.answer;
-    let state = after.card;
-    *restarted = numbers::of_restart(answer, state);
+    *restarted = numbers::of_restart(after);
 }
 
 // The values of a card's sensor record in 64 bytes.
@@ -182,13 +173,11 @@ pub extern "C" fn zlatopysk_read_record(bytes: &[u8], record: &mut [u8; 87], ans
         ≡ held_left (records.read_of bytes.now) «record».old }
 {
     match sensor_record::read(bytes) {
-        ReadRecord::Refused(why) => {
-            *answer = numbers::refused(why, 0, 0);
-        }
-        ReadRecord::Held(values) => {
+        Ok(values) => {
             *record = record_layout::bytes(values);
-            *answer = [0, 0, 0];
+            *answer = [0; 3];
         }
+        Err(why) => *answer = numbers::refused(why, 0, 0),
     }
 }
 
@@ -199,14 +188,10 @@ pub extern "C" fn zlatopysk_write_record(record: &[u8; 87], out: &mut [u8], answ
         ≡ written_left (records.write_of (values_in «record».now) out.old) }
 {
     let values = record_layout::values(record);
-    match sensor_record::write(values, out) {
-        WroteRecord::Refused(why) => {
-            *answer = numbers::refused(why, 0, 0);
-        }
-        WroteRecord::Written => {
-            *answer = [0, 0, 0];
-        }
-    }
+    *answer = match sensor_record::write(values, out) {
+        Ok(()) => [0; 3],
+        Err(why) => numbers::refused(why, 0, 0),
+    };
 }
 
 // Total power in watts from the raw 12 V readings.

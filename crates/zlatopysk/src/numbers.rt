@@ -1,5 +1,5 @@
 // Answers as numbers, and modes.
-ghost use Rattle.std.specs.Prelude.{◌≡◌, cond};
+ghost use Rattle.std.specs.Prelude.{◌≡◌};
 ghost use Rattle.refusal.specs.Refusal.{number_of};
 ghost use Rattle.text_image.specs.Rules.{judged};
 ghost use Rattle.planner.specs.Plan as plan;
@@ -9,7 +9,7 @@ ghost use Rattle.card.specs.Mains.{ending_of};
 ghost use Rattle.zlatopysk.specs.Numbers.{numbers, read_numbers, plan_numbers, check_numbers};
 ghost use Rattle.zlatopysk.specs.Numbers.{mode_number, mode_of, call_numbers, cut_numbers, restart_numbers};
 
-use card::{Answer, Card, Ended};
+use card::{Called, Restarted};
 use checker::Checked;
 use loader::Mode;
 use planner::Planned;
@@ -47,27 +47,22 @@ pub fn of_check(checked: Checked) -> [u64; 4]
 {
     let packets = checked.packets as u64;
     let unknown = checked.unknown as u64;
-    let answer = checked.answer;
-    match answer {
-        checker::Answer::Passed => [0, 0, packets, unknown],
-        checker::Answer::Refused { refusal, place } => {
-            let number = refusal::number(refusal);
-            [number as u64, place as u64, packets, unknown]
-        }
+    match checked.answer {
+        Ok(()) => [0, 0, packets, unknown],
+        Err(why) => [u64::from(u8::from(why.refusal)), why.place as u64, packets, unknown],
     }
 }
 
-// A number other than 0, 1 and 2 counts as locked.
+// The C interface has modes as numbers; one other than 0, 1 and 2 counts as locked.
+#[tactic(auto, unfolding(crate::specs::Numbers::mode_of))]
 pub fn mode_of(number: u8) -> Mode
     ensures { result ≡ mode_of number }
 {
-    if number == 0 {
-        return Mode::Application;
+    match number {
+        0 => Mode::Application,
+        2 => Mode::Unlocked,
+        _ => Mode::Locked,
     }
-    if number == 2 {
-        return Mode::Unlocked;
-    }
-    Mode::Locked
 }
 
 fn mode_number(mode: Mode) -> u64
@@ -80,47 +75,33 @@ fn mode_number(mode: Mode) -> u64
     }
 }
 
-// 1 for a success.
-fn success_number(success: bool) -> u64
-    ensures { result ≡ cond success 1 0 }
+// What a call is answered, 1 for a success, and the card behind it.
+pub fn of_call(called: Called) -> [u64; 4]
+    ensures { result ≡ call_numbers (calls.said called.answer) called.card.loader.mode }
 {
-    if !success {
-        return 0;
+    let mode = mode_number(called.card.loader.mode);
+    match called.answer {
+        Err(why) => [u8::from(why) as u64, 0, 0, mode],
+        Ok(replied) => [0, replied.count as u64, u64::from(replied.success), mode],
     }
-    1
 }
 
-// What a call is answered, and the card behind it.
-pub fn of_call(answer: Answer, card: Card) -> [u64; 4]
-    ensures { result ≡ call_numbers (calls.said answer) card.loader.mode }
+pub fn of_cut(answer: Result<(), Refusal>) -> [u64; 3]
+    ensures { result ≡ cut_numbers (ending_of answer) }
 {
-    let state = card.loader;
-    let mode = state.mode;
-    let mode = mode_number(mode);
     match answer {
-        Answer::Refused(why) => [refusal::number(why) as u64, 0, 0, mode],
-        Answer::Replied { count, success } => [0, count as u64, success_number(success), mode],
-    }
-}
-
-pub fn of_cut(ended: Ended) -> [u64; 3]
-    ensures { result ≡ cut_numbers (ending_of ended) }
-{
-    match ended {
-        Ended::Refused(why) => refused(why, 0, 0),
-        Ended::Done => [0, 0, 0],
+        Err(why) => refused(why, 0, 0),
+        Ok(()) => [0, 0, 0],
     }
 }
 
 // What a restart is answered, and the card then.
-pub fn of_restart(answer: Ended, card: Card) -> [u64; 2]
-    ensures { result ≡ restart_numbers (ending_of answer) card.loader.mode }
+pub fn of_restart(restarted: Restarted) -> [u64; 2]
+    ensures { result ≡ restart_numbers (ending_of restarted.answer) restarted.card.loader.mode }
 {
-    let state = card.loader;
-    let mode = state.mode;
-    let mode = mode_number(mode);
-    match answer {
-        Ended::Refused(why) => [refusal::number(why) as u64, mode],
-        Ended::Done => [0, mode],
+    let mode = mode_number(restarted.card.loader.mode);
+    match restarted.answer {
+        Err(why) => [u8::from(why) as u64, mode],
+        Ok(()) => [0, mode],
     }
 }

@@ -1,6 +1,7 @@
 -- `checker::run_packet` meets its contract.
 -- Assumes nothing.
 use mathlib.Core.Path.{sym, ◌∙◌}
+use Rattle.std.proofs.Common.{rules}
 use Rattle.checker.proofs.Steps.{follow-early, follow-failed, follow-ran}
 use Rattle.checker.proofs.run_packet.Goals as goal
 
@@ -10,7 +11,7 @@ returns-then-starts_too_early c =
     let a = c.args in
     λ ones t.
     follow-early a.password.now a.text.now a.packet.now a.loader a.region.now a.known.now ones c.requires
-    (λ i. (c.slice_known-2-1.given i).fits) t early.result early.ensures c.if-starts_too_early.true
+    (λ i. search rules) t early.result early.ensures c.if-starts_too_early.true
 
 pub returns-then-not-succeeded : goal.returns-then-not-succeeded
 returns-then-not-succeeded c =
@@ -18,7 +19,7 @@ returns-then-not-succeeded c =
     let a = c.args in
     λ ones t.
     follow-failed a.password.now a.text.now a.packet.now a.loader a.region.now a.known.now ones c.requires
-    (λ i. (c.slice_known-2-1.given i).fits) t early.result early.ensures c.if-starts_too_early.false
+    (λ i. search rules) t early.result early.ensures c.if-starts_too_early.false
     _ c.receive-ran.ensures (sym c.succeeded.ensures ∙ c.if-not-succeeded.true)
 
 pub returns : goal.returns
@@ -27,6 +28,6 @@ returns c =
     let a = c.args in
     λ ones t.
     follow-ran a.password.now a.text.now a.packet.now a.loader a.region.now a.known.now ones c.requires
-    (λ i. (c.slice_known-2-1.given i).fits) t early.result early.ensures c.if-starts_too_early.false
+    (λ i. search rules) t early.result early.ensures c.if-starts_too_early.false
     _ c.receive-ran.ensures (sym c.succeeded.ensures ∙ c.if-not-succeeded.false)
     c.learn.new.known c.learn.auto.known c.learn.ensures

@@ -1,57 +1,20 @@
--- `flash::is_writable` meets its contract: what is left to test decides the whole.
+-- `flash::is_writable` meets its contract: each new byte is tested beside its own old one, unless there are more of the new.
 -- Assumes nothing.
-use Prim.Native.Nat.{◌+◌}
-use mathlib.Core.Path.{◌≡◌, refl, sym, ap, ◌∙◌}
-use mathlib.Core.Bool.{true, false, ◌&&◌}
-use lib.Bits.{bit_and}
-use lib.Dec.{eqb}
-use native.Mathlib.Omega.{arith}
-use lib.ListN.{get_or, drop}
-use borrow.Author.Tests.{eq-eqb, ne_eqb}
-use Rattle.flash.specs.Flash.{writable}
-use Rattle.flash.proofs.Writing.{writable-next, writable-short, writable-end}
+use mathlib.Core.Path.{sym, ◌∙◌}
+use borrow.Author.Tests.{lt-leb}
+use Rattle.std.proofs.Common.{rules, tests}
+use Rattle.std.proofs.lemmas.Iterator.{YieldsList-from_slice, YieldsList-from_zip}
+use Rattle.std.proofs.lemmas.Iterator.Search.{all_from_yields_List}
+use Rattle.flash.proofs.Writing.{clears, writable-by_pairs, writable_short}
 use Rattle.flash.proofs.is_writable.Goals as goal
 
-pub loop-i-init : goal.loop-i-init
-loop-i-init c = (omega arith, refl)
+pub returns-then-new-old : goal.returns-then-new-old
+returns-then-new-old c =
+    all_from_yields_List clears c.all.new.self _ _ c.all.ensures.ran
+    (YieldsList-from_zip (YieldsList-from_slice c.args.old.now cc) (YieldsList-from_slice c.args.new.now cc))
+    (λ x b q k. search (rules, tests))
+    ∙ writable-by_pairs c.args.old.now c.args.new.now c.if-new-old.true
 
-pub returns-then-old-i : goal.returns-then-old-i
-returns-then-old-i c =
-    let l = c.loop-i in
-    sym (l.invariant.1 ∙ writable-short c.args.old.now c.args.new.now l.i (omega arith) (omega arith))
-
-pub bounds-old-i : goal.bounds-old-i
-bounds-old-i c = omega arith
-
-pub bounds-new-i : goal.bounds-new-i
-bounds-new-i c = omega arith
-
-pub bounds-new-i-in-loop-i : goal.bounds-new-i-in-loop-i
-bounds-new-i-in-loop-i c = omega arith
-
-pub returns-then-new-i : goal.returns-then-new-i
-returns-then-new-i c =
-    let l = c.loop-i in
-    let old = c.args.old.now in
-    let new = c.args.new.now in
-    let differs : eqb (get_or new l.i 0) (bit_and (get_or old l.i 0) (get_or new l.i 0)) ≡ false = ne_eqb _ _ c.if-new-i.true in
-    sym (l.invariant.1 ∙ writable-next old new l.i (omega arith) (omega arith) ∙ ap (◌&& writable (drop (l.i + 1) old) (drop (l.i + 1) new)) differs)
-
-pub overflow_add-i : goal.overflow_add-i
-overflow_add-i c = omega arith
-
-pub loop-i-smaller : goal.loop-i-smaller
-loop-i-smaller c = omega arith
-
-pub loop-i-preserved : goal.loop-i-preserved
-loop-i-preserved c =
-    let l = c.loop-i in
-    let old = c.args.old.now in
-    let new = c.args.new.now in
-    let equals : eqb (get_or new l.i 0) (bit_and (get_or old l.i 0) (get_or new l.i 0)) ≡ true = eq-eqb _ _ c.if-new-i.false in
-    (omega arith, l.invariant.1 ∙ writable-next old new l.i (omega arith) (omega arith) ∙ ap (◌&& writable (drop (l.i + 1) old) (drop (l.i + 1) new)) equals)
-
-pub returns : goal.returns
-returns c =
-    let l = c.loop-i in
-    sym (l.invariant.1 ∙ writable-end c.args.old.now c.args.new.now l.i (omega arith))
+pub returns-else-new-old : goal.returns-else-new-old
+returns-else-new-old c =
+    lt-leb _ _ c.if-new-old.false ∙ sym (writable_short c.args.old.now c.args.new.now c.if-new-old.false)

@@ -1,59 +1,28 @@
--- `known_bits::mark_range` meets its contract.
+-- `known_bits::mark_range` meets its contract: addresses one by one, those of whole bytes, and again one by one.
 -- Assumes nothing.
-use mathlib.Core.Path.{◌≡◌, refl, ◌∙◌, subst}
-use Prim.Native.Nat.{ℕ, ◌+◌}
-use native.Mathlib.Omega.{arith}
-use Rattle.known_bits.proofs.Ranges.{Adds, adds_none, adds-more, range-not, map-long, range-past, range-added}
+use Rattle.std.proofs.Common.{◌≡◌, ℕ, ◌+◌, ◌-◌, ◌*◌, ◌/◌, ◌%◌, ◌≤◌, List, length, replicate, ap, ◌∙◌, subst, sym, arith}
+use borrow.Rule.Slice.PartMut.{put_mid}
+use Rattle.std.proofs.lemmas.List.{places}
+use Rattle.known_bits.specs.Known.{Adds}
+use Rattle.known_bits.proofs.Ranges.{adds-more, adds-filled, range-added}
 use Rattle.known_bits.proofs.mark_range.Goals as goal
-
-pub returns-then-map-gt-LONGEST : goal.returns-then-map-gt-LONGEST
-returns-then-map-gt-LONGEST c =
-    let a = c.args in
-    range-not a.from a.n a.map.now (map-long a.from a.n a.map.now c.if-map-gt-LONGEST.true)
-
-pub returns-then-places-from : goal.returns-then-places-from
-returns-then-places-from c =
-    let a = c.args in
-    range-not a.from a.n a.map.now (range-past a.from a.n a.map.now (omega (arith, c.if-places-from.true)))
-
-pub returns-then-places-from-2 : goal.returns-then-places-from-2
-returns-then-places-from-2 c =
-    let a = c.args in
-    range-not a.from a.n a.map.now
-    (range-past a.from a.n a.map.now (omega (arith, c.if-places-from-2.true, c.if-places-from.false)))
-
-pub loop-at-init : goal.loop-at-init
-loop-at-init c =
-    let a = c.args in
-    (adds_none a.from a.map.now, omega arith, omega arith, refl)
-
-pub mark_next-at-requires : goal.mark_next-at-requires
-mark_next-at-requires c =
-    let l = c.loop-at in
-    (omega arith, omega (arith, l.invariant.3), omega (arith, l.invariant.3))
-
-pub loop-at-smaller : goal.loop-at-smaller
-loop-at-smaller c = omega arith
-
-pub loop-at-preserved : goal.loop-at-preserved
-loop-at-preserved c =
-    let marking = c.mark_next-at in
-    let l = c.loop-at in
-    let a = c.args in (
-      adds-more a.from l.at marking.result a.map.now l.map marking.new.map l.invariant.1 (omega arith) l.invariant.0
-          marking.ensures.0,
-      omega arith,
-      omega arith,
-      marking.auto.map ∙ l.invariant.3,
-    )
-
-pub shape_of-map : goal.shape_of-map
-shape_of-map c = c.loop-at.invariant.3
 
 pub returns : goal.returns
 returns c =
-    let l = c.loop-at in
     let a = c.args in
-    let all : l.at ≡ a.from + a.n = omega arith in
-    range-added a.from a.n a.map.now (omega arith) (omega arith) l.map l.invariant.3
-    (subst (λ (end : ℕ). Adds a.from end a.map.now l.map) all l.invariant.0)
+    let first = c.min-first.result in
+    let last = c.max-last.result in
+    let end = a.from + a.n in
+    let front = c.mark_each.new.map in
+    let count = last / 8 - first / 8 in
+    let new = c.mark_each-2.new.map in
+    let ordered : first ≤ last = grind arith in
+    let within : last ≤ length front * 8 = grind arith in
+    let whole : (first ≡ last → ⊥) → (first % 8 ≡ 0) × (last % 8 ≡ 0) = λ e. (grind arith, grind arith) in
+    let full : c.fill.new.self ≡ replicate count 0xFF = c.fill.ensures.after (λ y e. e) ∙ ap (λ (n : ℕ). replicate n 0xFF) (grind (arith, places)) in
+    let filled : Adds first last front (put_mid (first / 8) count front c.fill.new.self) =
+    subst (λ (bytes : List ℕ). Adds first last front (put_mid (first / 8) count front bytes)) (sym full) (adds-filled first last front ordered within whole) in
+    range-added a.from a.n a.map.now (grind arith) (grind arith) new (c.mark_each-2.auto.map ∙ grind (arith, places))
+    (adds-more a.from last end a.map.now _ new (grind arith) (grind arith)
+    (adds-more a.from first last a.map.now front _ (grind arith) ordered c.mark_each.ensures filled)
+    c.mark_each-2.ensures)

@@ -6,7 +6,7 @@ use native.Mathlib.Omega.{arith}
 use borrow.Author.Tests.{lt-ltb, le-ltb}
 use lib.ListN.{length}
 use Rattle.known_bits.specs.Known.{longest_map}
-use Rattle.known_bits.proofs.Words.{count_most}
+use Rattle.known_bits.proofs.Words.{count-most}
 use Rattle.known_bits.proofs.unknown.Goals as goal
 
 pub returns-then-map-gt-LONGEST : goal.returns-then-map-gt-LONGEST
@@ -14,7 +14,7 @@ returns-then-map-gt-LONGEST c = rw (lt-ltb longest_map (length c.args.map.now) c
 
 pub overflow_sub-result : goal.overflow_sub-result
 overflow_sub-result c =
-    let most = count_most c.args.map.now (λ i. (c.type_inv.map i).fits) in
+    let most = count-most c.args.map.now (λ i. (c.type_inv.map i).fits) in
     omega (arith, most, c.count.ensures)
 
 pub returns : goal.returns

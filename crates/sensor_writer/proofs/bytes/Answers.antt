@@ -34,8 +34,15 @@ returns c =
     ∙ ap (stored_at 24 one)
     (c.store.ensures
     ∙ ap₂ (stored_at 8) c.sensor_bytes.ensures
-    (c.store_four-2.ensures
-    ∙ ap₂ (λ (n : ℕ) (l : List ℕ). stored_at 4 (little_endian 4 n) l) c.security_word.ensures
-    (c.store_four.ensures ∙ ap (λ (n : ℕ). stored_at 0 (little_endian 4 n) zeros) c.status_word.ensures))))))
+    (c.store_at-2.ensures
+    ∙ ap₂ (λ (n : ℕ) (l : List ℕ). stored_at 4 (little_endian 4 n) l) (c.packed-2.ensures ∙ ap packed c.bits-2.ensures)
+    (c.store_at.ensures ∙ ap (λ (n : ℕ). stored_at 0 (little_endian 4 n) zeros) (c.packed.ensures ∙ ap packed c.bits.ensures)))))))
     ∙ in-turn 0 parts zeros (omega arith)
     ∙ stored-between 0 (joined parts) zeros (omega arith)
+
+-- the words fit, whatever the bytes of the values
+pub packed-requires : goal.packed-requires
+packed-requires c = rw c.bits.ensures (omega (arith, c.well_formed))
+
+pub packed-requires-2 : goal.packed-requires-2
+packed-requires-2 c = rw c.bits-2.ensures (omega (arith, c.well_formed))

@@ -30,7 +30,8 @@ returns c =
     ∙ simp (
       c.to_byte-2.ensures,
       c.to_byte.ensures,
-      c.device_status_word.ensures,
+      c.packed.ensures,
+      c.bits.ensures,
       machine-again d.fpga_temperature fpga,
       machine-again d.hbm_temperature hbm,
     ))

@@ -28,9 +28,10 @@ returns c =
     let m = a.m in
     let warm : mag m.temperature < 128 = omega (arith, c.well_formed) in
     let status = little_endian 2 (packed (module_status_bits m.status)) in
-    let word = c.module_status_word in
-    c.store_two.ensures
-    ∙ ap (λ (l : List ℕ). stored_at (a.at + 1) l c.store.new.out) (low-two word.result ∙ ap (little_endian 2) word.ensures)
+    let word = c.packed in
+    let two = low-two word.result ∙ ap (little_endian 2) (word.ensures ∙ ap packed c.bits.ensures) in
+    c.store_at.ensures
+    ∙ ap (λ (l : List ℕ). stored_at (a.at + 1) l c.store.new.out) two
     ∙ ap (stored_at (a.at + 1) status)
     (c.store.ensures
     ∙ ap (λ (t : ℕ). stored_at a.at (t ∷ []) a.out.now) (c.to_byte.ensures ∙ ap byte_of (machine-again m.temperature warm)))
