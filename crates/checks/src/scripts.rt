@@ -5,6 +5,19 @@ use std::io;
 use vector_lines::room::Room;
 use vector_lines::{cut, hex_of, number_of, packets, secret};
 
+// Leaves out the last bytes, so many.
+fn shorten(script: &mut Room, count: usize) {
+    let kept = script.bytes.len().saturating_sub(count);
+    script.bytes.truncate(kept);
+}
+
+// Puts a byte over the one at a place, if there is one.
+fn put_over(script: &mut Room, at: usize, byte: u8) {
+    if let Some(old) = script.bytes.get_mut(at) {
+        *old = byte;
+    }
+}
+
 // The text that a script is planned of, and its size.
 #[derive(Clone, Copy)]
 pub struct Planning<'a> {
@@ -47,9 +60,9 @@ impl Planning<'_> {
         match name {
             b"head" => script.put_whole(&script::head())?,
             b"plan" => self.put(rt, hex_of(rest), script)?,
-            b"cut" => script.truncate(number),
-            b"less" => script.shorten(number),
-            b"at" => script.put_over(number, packets::byte_of(more)),
+            b"cut" => script.bytes.truncate(number),
+            b"less" => shorten(script, number),
+            b"at" => put_over(script, number, packets::byte_of(more)),
             b"again" => script.go_on(number, number_of(more).0)?,
             _ => packets::put(rt, step, script)?,
         }

@@ -8,7 +8,7 @@ pub mod room;
 pub mod show;
 pub mod words;
 
-ghost use Rattle.std.specs.Prelude.{◌-◌, ◌^◌, ◌<◌, ◌≤◌, length, IfSome};
+ghost use Rattle.std.specs.Prelude.{◌≡◌, ◌-◌, ◌*◌, ◌^◌, ◌<◌, ◌≤◌, length, IfSome};
 
 use byte_parts::behind;
 use std::alloc::{AllocError, Global};
@@ -26,7 +26,9 @@ pub fn input(rt: &(impl Input + AllocGlobal)) -> io::Result<Vec<u8>> {
 }
 
 // The bytes 0, 1, 2 .. 255, 0, 1 .. of which a password is lent.
-pub fn secret() -> [u8; 300] {
+pub fn secret() -> [u8; 300]
+    ensures { 300 ≡ length result }
+{
     std::array::from_fn(|i| (i % 256) as u8)
 }
 
@@ -62,7 +64,8 @@ pub fn label<'a>(rt: &impl Print, line: &'a [u8]) -> io::Result<&'a [u8]> {
 
 // What stands before the first such byte, and what behind it: nothing if there is none.
 pub fn cut(words: &[u8], end: u8) -> (&[u8], &[u8])
-    ensures { length result.1.now ≤ length words.now - 1 }
+    ensures part { length result.0.now ≤ length words.now }
+    ensures rest { length result.1.now ≤ length words.now - 1 }
 {
     match words.iter().position(|&b| b == end) {
         Some(at) => (&words[..at], &words[at + 1..]),
@@ -78,7 +81,9 @@ pub trait Settings {
 
 // Takes the settings that words begin with, each a name and a value with a space behind both, and hands back
 // what stands behind them.
-pub fn read_settings<'a, S: Settings>(words: &'a [u8], into: &mut S) -> &'a [u8] {
+pub fn read_settings<'a, S: Settings>(words: &'a [u8], into: &mut S) -> &'a [u8]
+    ensures { length result.now ≤ length words.now }
+{
     let mut rest = words;
     while !rest.is_empty() {
         let (name, values) = cut(rest, b' ');
@@ -101,14 +106,15 @@ fn digit_of(letter: u8, base: u32) -> Option<u32>
 // The number of the digits that words begin with, and what stands behind them. It ends before a digit that
 // would make it `limit` times the base or more.
 fn number_in(base: u32, limit: u32, words: &[u8]) -> (u32, &[u8])
-    requires { (2 ≤ base) × (base ≤ 16) }
+    requires base { (2 ≤ base) × (base ≤ 16) }
+    requires limit { (0 < limit) × (limit * base ≤ 2 ^ 32) }
+    ensures value { result.0 < limit * base }
+    ensures rest { length result.1.now ≤ length words.now }
 {
-    let mut value = 0u32;
+    let mut value = 0;
     for (at, &letter) in words.iter().enumerate() {
         match digit_of(letter, base) {
-            Some(digit) if value < limit => {
-                value = value.saturating_mul(base).saturating_add(digit);
-            }
+            Some(digit) if value < limit => value = value * base + digit,
             _ => return (value, behind(words, at)),
         }
     }
@@ -118,7 +124,8 @@ fn number_in(base: u32, limit: u32, words: &[u8]) -> (u32, &[u8])
 // The decimal number that words begin with, and what stands behind its at most nine digits. Words that begin
 // with none begin with the number 0, which is what every line without the number means.
 pub fn number_of(words: &[u8]) -> (usize, &[u8])
-    ensures { result.0 < 2 ^ 32 }
+    ensures value { result.0 < 1000000000 }
+    ensures rest { length result.1.now ≤ length words.now }
 {
     let (value, rest) = number_in(10, 100_000_000, words);
     (value as usize, rest)

@@ -1,6 +1,8 @@
 // The text that the words of a line stand for: \n, \r, \t, \0 and \\ mean these bytes, and
 // `HEAD*COUNT UNIT*TAIL` the head, the unit so many times and the tail, where the tail may go on with a
 // star, a count and a unit.
+ghost use Rattle.std.specs.Prelude.{◌≡◌, ◌≤◌, vec_len, IfOk};
+
 use crate::number_of;
 use crate::room::Room;
 use byte_parts::behind;
@@ -38,8 +40,10 @@ fn meant(alloc: Global, words: &[u8]) -> Result<Vec<u8>, AllocError> {
 }
 
 // Puts what a part of the words stands for, which is a count and a unit if it is counted.
-fn put_part(part: &[u8], counted: bool, text: &mut Room) -> Result<(), AllocError> {
-    let alloc = text.allocator();
+fn put_part(part: &[u8], counted: bool, text: &mut Room) -> Result<(), AllocError>
+    ensures { text.new.size ≡ text.old.size }
+{
+    let alloc = *text.bytes.allocator();
     if !counted {
         return text.put(&meant(alloc, part)?);
     }
@@ -50,10 +54,12 @@ fn put_part(part: &[u8], counted: bool, text: &mut Room) -> Result<(), AllocErro
 
 // The text of words whose parts, between stars, are by turns plain and a count with a unit, as much of it as
 // a room of the size holds: the rooms are longer than any text that is read.
-pub fn text_of(alloc: Global, words: &[u8], size: usize) -> Result<Vec<u8>, AllocError> {
+pub fn text_of(alloc: Global, words: &[u8], size: usize) -> Result<Vec<u8>, AllocError>
+    ensures { IfOk result (λ text. vec_len text ≤ size) }
+{
     let mut text = Room::new(alloc, size);
     for (i, part) in words.split(|&b| b == b'*').enumerate() {
         put_part(part, i % 2 == 1, &mut text)?;
     }
-    Ok(text.into_bytes())
+    Ok(text.bytes)
 }
