@@ -23,7 +23,6 @@ ghost use Rattle.checker.specs.Answers.{said, answered, fault_of, next_of, Tells
 use loader::{Loader, Mode};
 use packet::Command;
 use refusal::{Refusal, Refused};
-use text_image::Verdict;
 
 // The longest script that is checked.
 const LONGEST: usize = 2097152;
@@ -195,10 +194,7 @@ fn judge(
     if LONGEST < script.len() {
         return Err(Refused::from(Refusal::TooLong));
     }
-    match text_image::judge(text, size) {
-        Verdict::Refused { refusal, place } => return Err(Refused { refusal, place }),
-        Verdict::Sound => {}
-    }
+    text_image::judge(text, size)?;
     if !script::is_headed(script) {
         return Err(Refused::from(Refusal::ScriptHead));
     }
