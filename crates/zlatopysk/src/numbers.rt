@@ -44,15 +44,8 @@ pub fn of_check(checked: Checked) -> [u64; 4]
 {
     let packets = checked.packets as u64;
     let unknown = checked.unknown as u64;
-    match checked.answer {
-        Ok(()) => [0, 0, packets, unknown],
-        Err(why) => [
-            u64::from(u8::from(why.refusal)),
-            why.place as u64,
-            packets,
-            unknown,
-        ],
-    }
+    let [number, place, _] = of_read(checked.answer);
+    [number, place, packets, unknown]
 }
 
 // The C interface has modes as numbers; one other than 0, 1 and 2 counts as locked.
