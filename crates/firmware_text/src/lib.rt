@@ -21,6 +21,7 @@ fn is_hex(b: u8) -> bool
 
 // The value of a hex digit in either letter case, 16 for any other byte. Digits and letters come at
 // random, so no branch tells them apart: a letter's low bits count from 1 and it has the bit of 64.
+// An Option (by then_some) was tried here: the reader's rows of the bench took a quarter longer.
 pub fn digit_of(b: u8) -> u8
     ensures { result ≡ digit b }
 {

@@ -9,6 +9,8 @@ use borrow.Author.Tests.{eqb-true, leb-false, ltb-false, not-false}
 use lib.Dec.{eqb, leb, ltb}
 use lib.ListN.{length, take, drop, length-append, length-take}
 use lib.Seq.{take_at, drop_at}
+use Rattle.std.proofs.Common.{Result, Ok}
+use Rattle.refusal.specs.declared.Refused.{Refused}
 use Rattle.firmware_text.specs.Machine.{image_of}
 use Rattle.firmware_text.specs.Segments.{segments_of}
 use Rattle.little_endian.specs.Bytes.{stored_at}
@@ -25,8 +27,6 @@ use Rattle.text_image.specs.Rules as rules
 use Rattle.text_image.proofs.Sounds.{sound-short}
 use Rattle.planner.specs.Walk.{front}
 use Rattle.planner.specs.Plan.{Left, said, refused, planned, left, put_over, if_sound, plan_of}
-use Rattle.planner.specs.declared.Planned.{Planned}
-use Rattle.planner.specs.declared.Planned.TheVariants.{Written}
 use Rattle.planner.specs.Meaning.{Wrote, PlansRight}
 use Rattle.planner.proofs.Puts.{front_length, page-parts}
 
@@ -99,8 +99,8 @@ plans-right text password entry n output count =
         })
 
 -- a length that was answered is no longer than the output, for callers
-pub written-fits : (text password : List ℕ) (entry n : ℕ) (output : List ℕ) (r : Planned) (after : List ℕ) (count : ℕ)
-    → left (said r) after ≡ plan_of text password entry n output → r ≡ Written count → count ≤ length after
+pub written-fits : (text password : List ℕ) (entry n : ℕ) (output : List ℕ) (r : Result ℕ Refused) (after : List ℕ) (count : ℕ)
+    → left (said r) after ≡ plan_of text password entry n output → r ≡ Ok count → count ≤ length after
 written-fits text password entry n output r after count e is =
     let answer = ap (λ (l : Left). l.answer) (sym e) ∙ ap said is in
     let w = plans-right text password entry n output count answer in

@@ -1,15 +1,14 @@
 -- The planner (document 01, "Scripts, planner, checker", "Refusal numbers").
 -- Assumes nothing.
-use Rattle.std.specs.Prelude.{cond, not, List, [], ℕ, eqb, leb, ltb, length}
+use Rattle.std.specs.Prelude.{Result, Ok, Err, cond, not, List, [], ℕ, eqb, leb, ltb, length}
 use Rattle.firmware_text.specs.Machine.{image_of}
 use Rattle.little_endian.specs.Bytes.{stored_at}
 use Rattle.refusal.specs.Refusal.{number_of}
+use Rattle.refusal.specs.declared.Refused.{Refused}
 use Rattle.region.specs.Size.{good_size}
 use Rattle.script.specs.Page.{page_script}
 use Rattle.text_image.specs.Rules.{Judgement, rules_of}
 use Rattle.text_image.specs.Rules as rules
-use Rattle.planner.specs.declared.Planned.{Planned}
-use Rattle.planner.specs.declared.Planned.TheVariants.{Refused, Written}
 
 -- an answer in document 01's terms: a refusal's number and place, or the script's length
 pub data Said : Type 0 where
@@ -17,9 +16,9 @@ pub data Said : Type 0 where
   planned : ℕ → Said
 
 -- what was answered, in these terms
-abbrev pub said : Planned → Said
-said (Refused why place) = refused (number_of why) place
-said (Written n) = planned n
+abbrev pub said : Result ℕ Refused → Said
+said (Ok n) = planned n
+said (Err why) = refused (number_of why.refusal) why.place
 
 -- what is answered, and the output then
 pub record Left : Type 0 where

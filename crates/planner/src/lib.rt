@@ -10,9 +10,8 @@ ghost use Rattle.script.specs.Page.{addressed, writes_of, packets_of, page_scrip
 ghost use Rattle.planner.specs.Plan.{said, left, put_over, plan_of};
 ghost use Rattle.planner.specs.Walk.{PutIfRoom, packet_from, front};
 
-use refusal::Refusal;
+use refusal::{Refusal, Refused};
 use text_cursor::{Cursor, Token};
-use text_image::Verdict;
 
 // The least length of a write's core: code, address and one byte.
 const LEAST: usize = 6;
@@ -20,35 +19,12 @@ const LEAST: usize = 6;
 // The length of a full block's core: code, address and 256 bytes.
 const FULL: usize = 261;
 
-// What is answered.
-#[derive(Clone, Copy)]
-pub enum Planned {
-    Refused { refusal: Refusal, place: usize },
-    // The length of the script.
-    Written(usize),
-}
-
-// The answer of a refusal at a place.
-fn refuse(why: Refusal, place: usize) -> Planned
-    ensures { result ≡ Planned.Refused why place }
-{
-    Planned::Refused {
-        refusal: why,
-        place: place,
-    }
-}
-
 // A code and an address: how the core of a write or a start begins.
 fn opening(code: u8, address: u64) -> [u8; 5]
     ensures { result ≡ addressed code address }
 {
-    [
-        code,
-        (address % 256) as u8,
-        (address / 256 % 256) as u8,
-        (address / 256 / 256 % 256) as u8,
-        (address / 256 / 256 / 256 % 256) as u8,
-    ]
+    let [a, b, c, d, ..] = address.to_le_bytes();
+    [code, a, b, c, d]
 }
 
 // The packet around a core of at least so many bytes, put behind the first n of a buffer that has the
@@ -101,28 +77,32 @@ fn put_writes(text: &[u8], n: usize, out: &mut [u8]) -> usize
     let mut cursor = Cursor::new();
     loop {
         match cursor.next(text) {
-            Token::Segment {
-                address,
-                cursor: next,
-            } => {
+            Ok(
+                Token::Segment {
+                    address,
+                    cursor: next,
+                },
+            ) => {
                 held = put(&core[..filled], LEAST, held, out);
                 filled = begin(address, &mut core);
                 cursor = next;
             }
-            Token::Byte {
-                place: _,
-                address,
-                value,
-                cursor: next,
-            } => {
+            Ok(
+                Token::Byte {
+                    address,
+                    value,
+                    cursor: next,
+                    ..
+                },
+            ) => {
                 held = put(&core[..filled], FULL, held, out);
                 filled = begin_if_full(address, filled, &mut core);
                 core[filled] = value;
                 filled = filled + 1;
                 cursor = next;
             }
-            Token::Refused(_) => return put(&core[..filled], LEAST, held, out),
-            Token::End => return put(&core[..filled], LEAST, held, out),
+            Err(_) => return put(&core[..filled], LEAST, held, out),
+            Ok(Token::End) => return put(&core[..filled], LEAST, held, out),
         }
     }
 }
@@ -133,7 +113,7 @@ fn put_front(password: &[u8], out: &mut [u8]) -> usize
     ensures { PutIfRoom (front password.now) 0 out.old result out.new }
 {
     // the code, and the password behind it
-    let mut unlock = [0x21u8; 257];
+    let mut unlock = [0x21; 257];
     little_endian::store(password, 1, &mut unlock);
     little_endian::store(&script::head(), 0, out);
     let unlocked = put(&unlock, 1, 5, out);
@@ -147,11 +127,11 @@ fn put_script(text: &[u8], password: &[u8], entry: u32, out: &mut [u8]) -> usize
 {
     let erased = put_front(password, out);
     let written = put_writes(text, erased, out);
-    put(&opening(0x27, entry as u64), 1, written, out)
+    put(&opening(0x27, u64::from(entry)), 1, written, out)
 }
 
 // The script of a sound text over the front of an output that has the room.
-fn write(text: &[u8], password: &[u8], entry: u32, out: &mut [u8]) -> Planned
+fn write(text: &[u8], password: &[u8], entry: u32, out: &mut [u8]) -> Result<usize, Refused>
     requires { (length text.now ≤ 1048576) × (length password.now ≡ 256) }
     ensures { left (said result) out.new ≡ put_over (page_script (image_of text.now) password.now entry []) out.old }
 {
@@ -159,26 +139,30 @@ fn write(text: &[u8], password: &[u8], entry: u32, out: &mut [u8]) -> Planned
     let mut none = [0u8; 1];
     let length = put_script(text, password, entry, &mut none);
     if out.len() < length {
-        return refuse(Refusal::OutputShort, 0);
+        return Err(Refusal::OutputShort.into());
     }
-    Planned::Written(put_script(text, password, entry, out))
+    Ok(put_script(text, password, entry, out))
 }
 
 // The page's own script of a text over the front of the output, or a refusal.
-pub fn plan(text: &[u8], password: &[u8], entry: u32, size: usize, out: &mut [u8]) -> Planned
+pub fn plan(
+    text: &[u8],
+    password: &[u8],
+    entry: u32,
+    size: usize,
+    out: &mut [u8],
+) -> Result<usize, Refused>
     ensures { left (said result) out.new ≡ plan_of text.now password.now entry size out.old }
 {
     if !region::size_good(size) {
-        return refuse(Refusal::RegionSize, 0);
+        return Err(Refusal::RegionSize.into());
     }
     if password.len() != 256 {
-        return refuse(Refusal::PasswordLength, 0);
+        return Err(Refusal::PasswordLength.into());
     }
     if size <= entry as usize {
-        return refuse(Refusal::EntryOutside, 0);
+        return Err(Refusal::EntryOutside.into());
     }
-    match text_image::judge(text, size) {
-        Verdict::Sound => write(text, password, entry, out),
-        Verdict::Refused { refusal, place } => refuse(refusal, place),
-    }
+    text_image::judge(text, size)?;
+    write(text, password, entry, out)
 }

@@ -3,13 +3,27 @@
 // the text is malformed. No cursor is refused by a `requires`: one that no text has finds a fault.
 #![tactic(auto)]
 
-ghost use Rattle.std.specs.Prelude.{◌≡◌, ℕ, ◌+◌, ◌^◌, ◌<◌, ◌≤◌, drop, length, get_or};
+ghost use Rattle.std.specs.Prelude.{◌≡◌, ℕ, ◌+◌, ◌^◌, ◌<◌, ◌≤◌, drop, length, get_or, IsTrue, ◌↔◌};
 ghost use Rattle.firmware_text.specs.Digit.{IsHex};
 ghost use Rattle.firmware_text.specs.Machine.{Line, sign, half, full, gap, quit, within};
 ghost use Rattle.text_cursor.specs.Walk.{from, near, line_state, stop_state, rest, beginning, Tells};
-ghost use Rattle.text_cursor.specs.Parts.{Numbered, end_from, behind, Beyond, ahead_image, Reached};
+ghost use Rattle.text_cursor.specs.Parts.{Numbered, end_from, DigitAt, behind, Beyond, ahead_image, Reached};
+ghost use Rattle.std.specs.Prelude.{IfSome};
+ghost use Rattle.firmware_text.specs.Digit.{digit, value_of};
 
-use firmware_text::digit_of;
+use firmware_text::digit_of as raw;
+
+// The value of a hex digit, none for any other byte: over 16 for none, since an Option handed on for each byte made the reader slower.
+fn digit_of(b: u8) -> Option<u8>
+    ensures value { value_of result ≡ digit b }
+    ensures small { IfSome result (λ value. value < 16) }
+{
+    let d = raw(b);
+    if 16 <= d {
+        return None;
+    }
+    Some(d)
+}
 
 // The pairs of a cursor at the start of a text, one more than a line can have.
 const START: u64 = 17;
@@ -40,25 +54,15 @@ pub enum Token {
         value: u8,
         cursor: Cursor,
     },
-    // nothing that a well-formed text has, from this place on
-    Refused(usize),
     // the last line
     End,
 }
 
-// The place behind a line's end, or where there is none.
-#[derive(Clone, Copy)]
-enum LineEnd {
-    Past(usize),
-    Fault(usize),
-}
-
-// What stands behind a cursor: another pair of its line, a line, or neither.
+// What stands behind a cursor: another pair of its line, or a line.
 #[derive(Clone, Copy)]
 enum Ahead {
     Pair(usize),
     Line(usize),
-    Fault(usize),
 }
 
 // An address, and the place behind its digits.
@@ -68,198 +72,175 @@ struct Number {
     past: usize,
 }
 
-// LF, or CR LF.
-fn line_end(text: &[u8], at: usize) -> LineEnd
-    ensures { ((l : Line) → behind text.now l result ≡ end_from l at (drop at text.now)) × Beyond text.now at result }
+// The hex digit at a place.
+fn digit_at(text: &[u8], at: usize) -> Result<u8, usize>
+    ensures { DigitAt text.now at result }
 {
     if text.len() <= at {
-        return LineEnd::Fault(at);
+        return Err(at);
     }
-    let b = text[at];
+    let d = raw(text[at]);
+    if 16 <= d {
+        return Err(at);
+    }
+    Ok(d)
+}
+
+// Whether the byte stands at a place.
+fn stands(text: &[u8], at: usize, b: u8) -> bool
+    ensures { IsTrue result ↔ ((at < length text.now) × (get_or text.now at 0 ≡ b)) }
+{
+    at < text.len() && text[at] == b
+}
+
+// The place behind LF, or CR LF.
+fn line_end(text: &[u8], at: usize) -> Result<usize, usize>
+    ensures { ((l : Line) → behind text.now l result ≡ end_from l at (drop at text.now)) × Beyond text.now at result }
+{
+    if stands(text, at, b'\n') {
+        return Ok(at + 1);
+    }
+    if !stands(text, at, b'\r') {
+        return Err(at);
+    }
     let next = at + 1;
-    if b == 10 {
-        return LineEnd::Past(next);
+    if !stands(text, next, b'\n') {
+        return Err(next);
     }
-    if b != 13 {
-        return LineEnd::Fault(at);
-    }
-    if text.len() <= next {
-        return LineEnd::Fault(next);
-    }
-    if text[next] == 10 {
-        return LineEnd::Past(next + 1);
-    }
-    LineEnd::Fault(next)
+    Ok(next + 1)
 }
 
 // What may follow the q: its line end, and nothing else.
-fn last(text: &[u8], at: usize) -> Token
+fn last(text: &[u8], at: usize) -> Result<Token, usize>
     ensures { Tells text.now at (from quit at text.now) result }
 {
     if text.len() <= at {
-        return Token::End;
+        return Ok(Token::End);
     }
-    match line_end(text, at) {
-        LineEnd::Past(next) => {
-            if next < text.len() {
-                return Token::Refused(next);
-            }
-            Token::End
-        }
-        LineEnd::Fault(place) => Token::Refused(place),
+    let past = line_end(text, at)?;
+    if past < text.len() {
+        return Err(past);
     }
+    Ok(Token::End)
 }
 
 // The digits of an address behind its first, at most 8 in all.
 fn digits(text: &[u8], at: usize, first: u8) -> Number
-    requires { first < 16 }
+    requires { (first < 16) × (at ≤ length text.now) }
     ensures { Numbered text.now at first result }
 {
-    let mut past = at;
-    let mut value = first as u64;
-    let mut count: u8 = 1;
-    while past < text.len() {
-        let digit = digit_of(text[past]);
-        if 16 <= digit {
-            return Number { value, past };
-        }
-        if 8 <= count {
-            return Number { value, past };
-        }
-        value = value * 16 + digit as u64;
-        count = count + 1;
-        past = past + 1;
+    let rest = &text[at..text.len().min(at + 7)];
+    let mut value = u64::from(first);
+    for (i, &b) in rest.iter().enumerate() {
+        let Some(digit) = digit_of(b) else {
+            return Number {
+                value,
+                past: at + i,
+            };
+        };
+        value = value * 16 + u64::from(digit);
     }
-    Number { value, past }
+    Number {
+        value,
+        past: at + rest.len(),
+    }
 }
 
 // An address, from behind its @ on.
-fn opening(text: &[u8], at: usize) -> Token
+fn opening(text: &[u8], at: usize) -> Result<Token, usize>
     ensures { Tells text.now at (from sign at text.now) result }
 {
-    if text.len() <= at {
-        return Token::Refused(at);
-    }
-    let first = digit_of(text[at]);
-    if 16 <= first {
-        return Token::Refused(at);
-    }
+    let first = digit_at(text, at)?;
     let number = digits(text, at + 1, first);
+    let past = line_end(text, number.past)?;
     let address = number.value;
-    match line_end(text, number.past) {
-        LineEnd::Past(next) => Token::Segment {
-            address: address,
-            cursor: Cursor {
-                at: next,
-                pairs: 0,
-                address: address,
-            },
-        },
-        LineEnd::Fault(place) => Token::Refused(place),
-    }
+    let cursor = Cursor {
+        at: past,
+        pairs: 0,
+        address,
+    };
+    Ok(Token::Segment { address, cursor })
 }
 
 // A pair whose first digit is known; which of its line it is.
-fn pair(text: &[u8], at: usize, pairs: u64, address: u64, high: u8) -> Token
+fn pair(text: &[u8], at: usize, pairs: u64, address: u64, high: u8) -> Result<Token, usize>
     requires { (high < 16) × (address ≤ 2 ^ 32 + at) × (at < length text.now) × (0 < pairs) × (pairs < 17) }
     ensures { Tells text.now at (from (half at pairs address high) (at + 1) text.now) result }
 {
     let second = at + 1;
-    if text.len() <= second {
-        return Token::Refused(second);
-    }
-    let low = digit_of(text[second]);
-    if 16 <= low {
-        return Token::Refused(second);
-    }
-    Token::Byte {
+    let low = digit_at(text, second)?;
+    Ok(Token::Byte {
         place: at,
-        address: address,
+        address,
         value: high * 16 + low,
         cursor: Cursor {
             at: second + 1,
-            pairs: pairs,
+            pairs,
             address: address + 1,
         },
-    }
+    })
 }
 
 // What stands first in a line: a pair only below a segment.
-fn line_start(text: &[u8], at: usize, pairs: u64, address: u64) -> Token
+fn line_start(text: &[u8], at: usize, pairs: u64, address: u64) -> Result<Token, usize>
     requires { address ≤ 2 ^ 32 + at }
     ensures { Tells text.now at (from (line_state pairs address) at text.now) result }
 {
-    if text.len() <= at {
-        return Token::Refused(at);
-    }
-    let b = text[at];
-    let high = digit_of(b);
-    if high < 16 {
+    if let Ok(high) = digit_at(text, at) {
         if START <= pairs {
-            return Token::Refused(at);
+            return Err(at);
         }
         return pair(text, at, 1, address, high);
     }
-    if b == 64 {
+    if stands(text, at, b'@') {
         return opening(text, at + 1);
     }
-    if b == 113 {
+    if stands(text, at, b'q') {
         return last(text, at + 1);
     }
-    Token::Refused(at)
+    Err(at)
 }
 
 // Another pair of a line, of which no line has a 17th.
-fn another(text: &[u8], at: usize, pairs: u64, address: u64) -> Token
+fn another(text: &[u8], at: usize, pairs: u64, address: u64) -> Result<Token, usize>
     requires { (address ≤ 2 ^ 32 + at) × (at < length text.now) × IsHex (get_or text.now at 0) }
     ensures { Tells text.now at (from (gap pairs address) at text.now) result }
 {
     if 16 <= pairs {
-        return Token::Refused(at);
+        return Err(at);
     }
-    pair(text, at, pairs + 1, address, digit_of(text[at]))
+    let high = digit_at(text, at)?;
+    pair(text, at, pairs + 1, address, high)
 }
 
 // The line behind this one's end.
-fn line_ahead(text: &[u8], at: usize) -> Ahead
+fn line_ahead(text: &[u8], at: usize) -> Result<Ahead, usize>
     ensures { ((k a : ℕ) → k < 17 → ahead_image text.now k a result ≡ end_from (within a) at (drop at text.now))
         × Reached text.now at result }
 {
-    match line_end(text, at) {
-        LineEnd::Past(next) => Ahead::Line(next),
-        LineEnd::Fault(place) => Ahead::Fault(place),
-    }
+    Ok(Ahead::Line(line_end(text, at)?))
 }
 
 // Behind a pair: a space and another pair, or the line's end.
-fn behind_pair(text: &[u8], at: usize) -> Ahead
+fn behind_pair(text: &[u8], at: usize) -> Result<Ahead, usize>
     ensures { ((k a : ℕ) → k < 17 → ahead_image text.now k a result ≡ from (full k a) at text.now) × Reached text.now at result }
 {
-    if text.len() <= at {
-        return Ahead::Fault(at);
-    }
-    if text[at] != 32 {
+    if !stands(text, at, b' ') {
         return line_ahead(text, at);
     }
     let next = at + 1;
-    if text.len() <= next {
-        return Ahead::Fault(next);
+    match digit_at(text, next) {
+        Ok(_) => Ok(Ahead::Pair(next)),
+        Err(_) => line_ahead(text, next),
     }
-    if digit_of(text[next]) < 16 {
-        return Ahead::Pair(next);
-    }
-    line_ahead(text, next)
 }
 
 // Where the next token begins.
-fn look_ahead(text: &[u8], at: usize, pairs: u64) -> Ahead
+fn look_ahead(text: &[u8], at: usize, pairs: u64) -> Result<Ahead, usize>
     ensures { ((a : ℕ) → ahead_image text.now pairs a result ≡ from (stop_state pairs a) at text.now) × Reached text.now at result }
 {
-    if pairs == 0 {
-        return Ahead::Line(at);
-    }
-    if START <= pairs {
-        return Ahead::Line(at);
+    if pairs == 0 || START <= pairs {
+        return Ok(Ahead::Line(at));
     }
     behind_pair(text, at)
 }
@@ -268,13 +249,7 @@ fn look_ahead(text: &[u8], at: usize, pairs: u64) -> Ahead
 fn is_near(at: usize, address: u64) -> bool
     ensures { result ≡ near at address }
 {
-    if address < 4294967296 {
-        return true;
-    }
-    if address - 4294967296 <= at as u64 {
-        return true;
-    }
-    false
+    address.saturating_sub(1 << 32) <= at as u64
 }
 
 impl Cursor {
@@ -290,19 +265,16 @@ impl Cursor {
     }
 
     // The next token from the cursor on.
-    pub fn next(self, text: &[u8]) -> Token
+    pub fn next(self, text: &[u8]) -> Result<Token, usize>
         ensures { Tells text.now self.at (rest text.now self) result }
     {
-        let at = self.at;
-        let pairs = self.pairs;
-        let address = self.address;
+        let Cursor { at, pairs, address } = self;
         if !is_near(at, address) {
-            return Token::Refused(at);
+            return Err(at);
         }
-        match look_ahead(text, at, pairs) {
+        match look_ahead(text, at, pairs)? {
             Ahead::Pair(place) => another(text, place, pairs, address),
             Ahead::Line(place) => line_start(text, place, pairs, address),
-            Ahead::Fault(place) => Token::Refused(place),
         }
     }
 }

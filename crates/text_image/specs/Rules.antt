@@ -1,12 +1,11 @@
 -- Which firmware texts are sound for a region (document 01, "Firmware text", refusals 1, 18, 3, 4 and 5).
 -- Assumes nothing.
-use Rattle.std.specs.Prelude.{ℕ, List, [], ◌∷◌, Bool, true, false, ◌||◌, cond, ltb, leb, eqb, length}
+use Rattle.std.specs.Prelude.{ℕ, List, [], ◌∷◌, Result, Ok, Err, Bool, true, false, ◌||◌, cond, ltb, leb, eqb, length}
 use Rattle.refusal.specs.Refusal.{number_of}
+use Rattle.refusal.specs.declared.Refused.{Refused}
 use Rattle.region.specs.Size.{good_size}
 use Rattle.firmware_text.specs.Image.{Image, segment, byte, end, broken, Fault, none, at, fault_of}
 use Rattle.firmware_text.specs.Machine.{image_of}
-use Rattle.text_image.specs.declared.Verdict.{Verdict}
-use Rattle.text_image.specs.declared.Verdict.TheVariants.{Sound, Refused}
 
 -- the first pair at address n or above
 unfoldable pub outside_of : ℕ → Image → Fault
@@ -33,9 +32,9 @@ pub data Judgement : Type 0 where
   refused : (number place : ℕ) → Judgement
 
 -- a verdict that was given, in these terms
-abbrev pub judged : Verdict → Judgement
-judged Sound = sound
-judged (Refused why place) = refused (number_of why) place
+abbrev pub judged : Result Unit Refused → Judgement
+judged (Ok done) = sound
+judged (Err why) = refused (number_of why.refusal) why.place
 
 -- a refusal where there is a fault, else what comes next
 abbrev pub unless : ℕ → Fault → Judgement → Judgement

@@ -119,26 +119,10 @@ cannot-be buffer i f = go (is_sound (image_rules (length buffer) i)) refl
     go true e = sym (same_false buffer (picture_of (length buffer) i) (f e))
     go false e = refl
 
--- a byte that is 0xFF or stands at an address of the set
-pub stands : (v : ℕ) (m : Bool) → (eqb v 0xFF || m) ≡ true → m ≡ false → v ≡ 0xFF
-stands v m e f = go (eqb v 0xFF) refl e
+-- an address lies outside or inside
+pub beyond_or_inside : (a n : ℕ) → (n ≤ a) ⊎ (a < n)
+beyond_or_inside a n = go (ltb a n) refl
   where
-    go : (t : Bool) → eqb v 0xFF ≡ t → (t || m) ≡ true → v ≡ 0xFF
-    go true h x = eqb-true v 0xFF h
-    go false h x = absurd (false≢true (sym f ∙ x))
-
--- and one that is neither
-pub stands-not : (v : ℕ) (m : Bool) → (eqb v 0xFF || m) ≡ false → (m ≡ false) × (v ≡ 0xFF → ⊥)
-stands-not v m e = go (eqb v 0xFF) refl e
-  where
-    go : (t : Bool) → eqb v 0xFF ≡ t → (t || m) ≡ false → (m ≡ false) × (v ≡ 0xFF → ⊥)
-    go true h x = absurd (false≢true (sym x))
-    go false h x = (x, eqb-false v 0xFF h)
-
--- a byte that the buffer does not hold lies outside, or the buffer holds another there
-pub holds_not : (a n x v : ℕ) → (ltb a n && eqb x v) ≡ false → (n ≤ a) ⊎ ((a < n) × (x ≡ v → ⊥))
-holds_not a n x v e = go (ltb a n) refl e
-  where
-    go : (t : Bool) → ltb a n ≡ t → (t && eqb x v) ≡ false → (n ≤ a) ⊎ ((a < n) × (x ≡ v → ⊥))
-    go true h y = inr (ltb-true a n h, eqb-false x v y)
-    go false h y = inl (ltb-false a n h)
+    go : (t : Bool) → ltb a n ≡ t → (n ≤ a) ⊎ (a < n)
+    go true h = inr (ltb-true a n h)
+    go false h = inl (ltb-false a n h)

@@ -1,6 +1,6 @@
 -- `planner::write` meets its contract: the length that was told first decides.
 -- Assumes nothing.
-use mathlib.Core.Path.{◌≡◌, ap, ap₂}
+use mathlib.Core.Path.{◌≡◌, refl, ap₂}
 use mathlib.Core.Bool.{true, false}
 use mathlib.Core.List.{List, []}
 use Prim.Native.Nat.{ℕ}
@@ -10,8 +10,7 @@ use lib.Dec.{ltb}
 use lib.ListN.{length}
 use Rattle.firmware_text.specs.Machine.{image_of}
 use Rattle.script.specs.Page.{page_script}
-use Rattle.planner.specs.Plan.{said, planned, left, put_over}
-use Rattle.planner.specs.declared.Planned.{Planned}
+use Rattle.planner.specs.Plan.{planned, left, put_over}
 use Rattle.planner.proofs.write.Goals as goal
 
 pub returns-then-out-length : goal.returns-then-out-length
@@ -22,7 +21,7 @@ returns-then-out-length c =
     let script = page_script (image_of args.text.now) args.password.now args.entry [] in
     let short : ltb (length out) (length script) ≡ true =
     lt-ltb (length out) (length script) (omega (arith, c.put_script-length.ensures.0)) in
-    rw short (ap (λ (p : Planned). left (said p) out) c.refuse.ensures)
+    rw (short, c.into.ensures) refl
 
 pub returns : goal.returns
 unfolding put_over

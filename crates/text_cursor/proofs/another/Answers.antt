@@ -1,7 +1,7 @@
 -- `text_cursor::another` meets its contract: there is room for one, or not.
 -- Assumes nothing.
-use Prim.Native.Nat.{ℕ, ◌+◌, ◌<◌}
-use mathlib.Core.Path.{sym, ap, subst, ◌∙◌}
+use Prim.Native.Nat.{ℕ, ◌+◌}
+use mathlib.Core.Path.{sym, ap, ◌∙◌}
 use native.Mathlib.Omega.{arith}
 use lib.ListN.{get_or}
 use Rattle.firmware_text.specs.Digit.{digit}
@@ -18,15 +18,6 @@ returns-then-pairs-ge16 c =
     tells-fault _ _ _ _
     (sym (from_step _ args.at (gap args.pairs args.address) stuck pre.1 (gap-stuck _ _ args.at _ c.if-pairs-ge16.true pre.2)))
 
-pub pair-requires : goal.pair-requires
-pair-requires c = (
-  subst (λ (x : ℕ). x < 16) (sym c.digit_of.ensures) c.requires.2,
-  c.requires.0,
-  c.requires.1,
-  omega arith,
-  omega (arith, c.if-pairs-ge16.false),
-)
-
 pub returns : goal.returns
 returns c =
     let args = c.args in
@@ -34,8 +25,8 @@ returns c =
     let at = args.at in
     let k = args.pairs in
     let a = args.address in
+    let d = c.in_ok-high.ensures in
     let goes =
     from_step text at (gap k a) (on (half at (k + 1) a (digit (get_or text at 0)))) c.requires.1
     (gap-digit k a at _ (omega (arith, c.if-pairs-ge16.false)) c.requires.2) in
-    tells-on text at at _ _ _ (omega arith)
-    (ap (λ (x : ℕ). from (half at (k + 1) a x) (at + 1) text) c.digit_of.ensures ∙ sym goes) c.pair.ensures
+    tells-on text at at _ _ _ (omega arith) (ap (λ (x : ℕ). from (half at (k + 1) a x) (at + 1) text) d.1 ∙ sym goes) c.pair.ensures

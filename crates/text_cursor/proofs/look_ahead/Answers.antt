@@ -2,6 +2,7 @@
 -- Assumes nothing.
 use Prim.Native.Nat.{◌<◌}
 use mathlib.Core.Path.{sym, ap, ◌∙◌}
+use mathlib.Core.Logic.{⊎_elim}
 use native.Mathlib.Omega.{arith}
 use Rattle.firmware_text.specs.Machine.{State}
 use Rattle.text_cursor.specs.Walk.{from}
@@ -12,13 +13,11 @@ pub returns-then-pairs-eq0 : goal.returns-then-pairs-eq0
 returns-then-pairs-eq0 c =
     let text = c.args.text.now in
     let at = c.args.at in
-    (λ a. ap (λ (s : State). from s at text) (sym (stop-line c.args.pairs a c.if-pairs-eq0.true)), omega arith)
-
-pub returns-then-pairs-ge-START : goal.returns-then-pairs-ge-START
-returns-then-pairs-ge-START c =
-    let text = c.args.text.now in
-    let at = c.args.at in
-    (λ a. ap (λ (s : State). from s at text) (sym (stop-first c.args.pairs a c.if-pairs-ge-START.true)), omega arith)
+    let k = c.args.pairs in (
+      λ a. ap (λ (s : State). from s at text)
+          (sym (⊎_elim (λ none. stop-line k a none) (λ first. stop-first k a first.1) c.then-pairs-eq0.either)),
+      omega arith,
+    )
 
 pub returns : goal.returns
 returns c =

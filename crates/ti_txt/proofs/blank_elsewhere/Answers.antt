@@ -3,40 +3,26 @@
 use Prim.Native.Nat.{ℕ}
 use mathlib.Core.Path.{◌≡◌, sym, ◌∙◌}
 use native.Mathlib.Omega.{arith}
-use mathlib.Core.Bool.{false}
+use mathlib.Core.Bool.{false, false≢true}
 use borrow.Author.Count.{below_more}
 use lib.ListN.{get_or}
 use Rattle.address_set.specs.Bits.{marked}
-use Rattle.ti_txt.proofs.Compare.{stands, stands-not}
+use Rattle.ti_txt.proofs.blank_elsewhere.Goals.{else-value-via-then-value+else-not-is_marked, else-value-via-else-value}
 use Rattle.ti_txt.proofs.blank_elsewhere.Goals as goal
 
-pub loop-i-init : goal.loop-i-init
-loop-i-init c = (omega arith, λ j h. absurd (omega arith))
+pub loop-address-init : goal.loop-address-init
+loop-address-init c = λ a h. absurd (omega arith)
 
-pub bounds-buffer-i : goal.bounds-buffer-i
-bounds-buffer-i c = c.loop-i-test.true
-
-pub returns-then-not-may_stand : goal.returns-then-not-may_stand
-returns-then-not-may_stand c =
-    let l = c.loop-i in
-    let not = stands-not _ _ (sym c.may_stand.ensures ∙ c.if-not-may_stand.true) in
-    (l.i, c.loop-i-test.true, not.0, not.1)
-
-pub overflow_add-i : goal.overflow_add-i
-overflow_add-i c = omega arith
-
-pub loop-i-smaller : goal.loop-i-smaller
-loop-i-smaller c = omega arith
-
-pub loop-i-preserved : goal.loop-i-preserved
-loop-i-preserved c =
-    let l = c.loop-i in
-    let buffer = c.args.buffer.now in
-    let map = c.args.map.now in (
-      omega arith,
-      below_more (λ (j : ℕ). marked map j ≡ false → get_or buffer j 0 ≡ 255) l.i l.invariant.1
-          (stands _ _ (sym c.may_stand.ensures ∙ c.if-not-may_stand.false)),
-    )
+pub loop-address-preserved : goal.loop-address-preserved
+loop-address-preserved c =
+    let l = c.loop-address in
+    below_more (λ (a : ℕ). marked c.args.map.now a ≡ false → get_or c.args.buffer.now a 0 ≡ 255) l.address l.invariant here
+  where
+    here : marked c.args.map.now c.loop-address.address ≡ false → get_or c.args.buffer.now c.loop-address.address 0 ≡ 255
+    here clear = elim c.else-value.branch [
+      | else-value-via-then-value+else-not-is_marked w ↦ absurd (false≢true (sym clear ∙ sym w.is_marked.ensures ∙ w.if-not-is_marked.false))
+      | else-value-via-else-value w ↦ w.if-value.false
+    ]
 
 pub returns : goal.returns
-returns c = λ a h m. c.loop-i.invariant.1 a (omega (arith, c.loop-i-test.false)) m
+returns c = λ a h m. c.loop-address.invariant a (omega (arith, c.loop-address-test.false)) m
