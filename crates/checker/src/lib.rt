@@ -186,17 +186,17 @@ fn judge(
         (length region.now) (length known.now) }
 {
     if !region::size_good(size) || region.len() != size || known.len() != size / 8 {
-        return Err(Refused::from(Refusal::RegionSize));
+        return Err(Refusal::RegionSize.into());
     }
     if password.len() != 256 {
-        return Err(Refused::from(Refusal::PasswordLength));
+        return Err(Refusal::PasswordLength.into());
     }
     if LONGEST < script.len() {
-        return Err(Refused::from(Refusal::TooLong));
+        return Err(Refusal::TooLong.into());
     }
     text_image::judge(text, size)?;
     if !script::is_headed(script) {
-        return Err(Refused::from(Refusal::ScriptHead));
+        return Err(Refusal::ScriptHead.into());
     }
     Ok(())
 }
