@@ -14,7 +14,7 @@ ghost use Rattle.script.specs.Script.{longest_script, front_of};
 ghost use Rattle.text_image.specs.Picture.{picture_of};
 ghost use Rattle.text_image.specs.Rules.{rules_of, sound};
 ghost use Rattle.ti_txt.specs.Answers.{is_picture_of};
-ghost use Rattle.delivery.specs.Check.{Trial, trial, locked, begins_start, step_of, end_of, found, run_of};
+ghost use Rattle.delivery.specs.Check.{Trial, trial, begins_start, step_of, end_of, found, run_of};
 ghost use Rattle.delivery.specs.Beside.{Learns};
 ghost use Rattle.delivery.specs.Demand.{Upholds};
 ghost use Rattle.delivery.specs.OneRegion.{single, judged_one, one_of, LimitsOne};
@@ -39,21 +39,11 @@ pub struct Checked {
     pub unknown: usize,
 }
 
-// A locked loader that expects the checksum.
-fn locked(expected: u16) -> Loader
-    ensures { result ≡ locked expected }
-{
-    Loader {
-        mode: Mode::Locked,
-        expected,
-    }
-}
-
 // Whether the core of a packet begins with the code of a start.
 fn begins_start(packet: &[u8]) -> bool
     ensures { result ≡ begins_start packet.now }
 {
-    little_endian::byte_at(packet::core(packet), 0) == START
+    packet::core(packet).first() == Some(&START)
 }
 
 // Whether a packet begins a start while the region is not the picture of the text, or a byte is unknown.
@@ -79,6 +69,7 @@ fn learn(packet: &[u8], known: &mut [u8])
 
 // Runs one packet over the region, and learns from it if it is a success: the loader goes on to its next
 // state. Whatever run over 0xFF stands beside the region, the packet goes as in the two of them.
+// Text, password and memory stay parameters: methods of a struct of them would each promise that it still holds the same.
 fn run_packet(
     packet: &[u8],
     text: &[u8],
@@ -137,7 +128,8 @@ fn found(answer: Result<(), Refused>, packets: usize, known: &[u8]) -> Checked
     }
 }
 
-// Runs the packets of a headed script from locked over a region of zeros of which nothing is known.
+// Runs the packets of a headed script from locked over a region of zeros of which nothing is known. A place is
+// counted by hand: each answer names its packet's, and only a packet says how long it is.
 fn run(
     script: &[u8],
     text: &[u8],
@@ -154,7 +146,10 @@ fn run(
         ≡ single (run_of script.now (picture_of (length region.old) (image_of text.now))
         password.now expected (length region.old)) }
 {
-    let mut state = locked(expected);
+    let mut state = Loader {
+        mode: Mode::Locked,
+        expected,
+    };
     let mut at = 5;
     let mut packets = 0;
     loop {

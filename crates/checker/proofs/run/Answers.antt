@@ -36,7 +36,7 @@ loop-length-init c =
     let eight : length a.region.now ≡ length known * 8 =
     ap length c.requires.3 ∙ length-replicate {A = ℕ} (length known * 8) 0x00 in (
       stand-begin a.script.now _ a.password.now a.expected (length a.region.now) (length known) _ _ _
-          c.locked-state.ensures eight c.requires.3 c.requires.4 c.requires.5,
+          refl eight c.requires.3 c.requires.4 c.requires.5,
       omega arith,
       omega arith,
       refl,
