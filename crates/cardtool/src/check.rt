@@ -2,9 +2,7 @@
 // how a card comes up if the power fails while it is sent.
 use arguments::{Command, Options};
 use byte_parts::{front, front_mut};
-use checker::Answer;
 use files::PASSWORD_ROOM;
-use refusal::Refused;
 use report::System;
 use std::io;
 use std::rt::{Env, Files};
@@ -35,14 +33,13 @@ fn judge(
         expected,
     };
     match checked.answer {
-        Answer::Refused { refusal, place } => {
-            let refused = Refused { refusal, place };
+        Err(refused) => {
             tool_verdict::refused(rt, script, text, password, refused, behind, region)
         }
-        Answer::Passed if command == Command::Cuts => {
+        Ok(()) if command == Command::Cuts => {
             tool_cuts::say(rt, options, script, texts, length, password, behind, room)
         }
-        Answer::Passed => tool_verdict::passed(rt, script, text, behind),
+        Ok(()) => tool_verdict::passed(rt, script, text, behind),
     }
 }
 

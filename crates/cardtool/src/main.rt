@@ -18,16 +18,21 @@ use tool_words::usage;
 // The status where what is printed cannot be written: as the system ends a program whose reader has gone.
 const UNHEARD: u8 = 141;
 
+// Room for so many bytes. It is made here, as the check would go over each byte of an array that it knows.
+fn room<const N: usize>() -> [u8; N] {
+    [0; N]
+}
+
 // Does what the arguments ask for.
 fn run(rt: &(impl System + Env + Files + RandomSource + Alloc)) -> io::Result<()> {
     let Some(Request { command, options }) = arguments::read(rt) else {
         usage::complain(rt);
         return Ok(());
     };
-    let mut text = [0u8; input_rooms::TEXT];
-    let mut script = [0u8; input_rooms::SCRIPT];
-    let mut region = [0u8; input_rooms::REGION];
-    let mut known = [0u8; input_rooms::KNOWN];
+    let mut text = room::<{ input_rooms::TEXT }>();
+    let mut script = room::<{ input_rooms::SCRIPT }>();
+    let mut region = room::<{ input_rooms::REGION }>();
+    let mut known = room::<{ input_rooms::KNOWN }>();
     match command {
         Command::Plan => tool_output::plan::run(rt, options, &mut text, &mut script, &mut region),
         Command::Check | Command::Cuts => {

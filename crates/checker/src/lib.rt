@@ -23,7 +23,6 @@ ghost use Rattle.checker.specs.Answers.{said, answered, fault_of, next_of, Tells
 use loader::{Loader, Mode};
 use packet::Command;
 use refusal::{Refusal, Refused};
-use text_image::Verdict;
 
 // The longest script that is checked.
 const LONGEST: usize = 2097152;
@@ -187,20 +186,17 @@ fn judge(
         (length region.now) (length known.now) }
 {
     if !region::size_good(size) || region.len() != size || known.len() != size / 8 {
-        return Err(Refused::from(Refusal::RegionSize));
+        return Err(Refusal::RegionSize.into());
     }
     if password.len() != 256 {
-        return Err(Refused::from(Refusal::PasswordLength));
+        return Err(Refusal::PasswordLength.into());
     }
     if LONGEST < script.len() {
-        return Err(Refused::from(Refusal::TooLong));
+        return Err(Refusal::TooLong.into());
     }
-    match text_image::judge(text, size) {
-        Verdict::Refused { refusal, place } => return Err(Refused { refusal, place }),
-        Verdict::Sound => {}
-    }
+    text_image::judge(text, size)?;
     if !script::is_headed(script) {
-        return Err(Refused::from(Refusal::ScriptHead));
+        return Err(Refusal::ScriptHead.into());
     }
     Ok(())
 }

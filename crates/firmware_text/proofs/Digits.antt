@@ -1,18 +1,20 @@
 -- A hex digit by its ranges and by its bits, computed at every byte.
 -- Assumes nothing.
 use Prim.Native.Nat.{ℕ, ◌+◌, ◌*◌, ◌/◌, ◌%◌, ◌<◌}
-use mathlib.Core.Path.{◌≡◌, refl, ap}
-use mathlib.Core.Bool.{Bool, true, false, not, ◌||◌, beq}
-use lib.Dec.{eqb}
+use mathlib.Core.Path.{◌≡◌, refl}
+use mathlib.Core.Bool.{Bool, true, not, ◌&&◌, ◌||◌, beq}
+use lib.Dec.{leb, eqb}
 use borrow.Author.Tests.{eqb-true}
 use Rattle.test_laws.proofs.Tests.{beq-eq, there, every_below, below}
-use Rattle.std.specs.Bool.{then_some}
-use Rattle.std.specs.Char.{is_ascii_hexdigit}
-use Rattle.firmware_text.specs.Digit.{digit, is_hex, value_of}
+use Rattle.firmware_text.specs.Digit.{digit, is_hex}
+
+-- the byte stands in one of the three ranges
+abbrev pub ranges : ℕ → Bool
+ranges b = (leb 48 b && leb b 57) || (leb 65 b && leb b 70) || (leb 97 b && leb b 102)
 
 -- a digit is in the ranges and its value is that of its bits; any other byte is in none
 ranged : ℕ → Bool
-ranged b = beq (is_ascii_hexdigit b) (is_hex b)
+ranged b = beq (ranges b) (is_hex b)
 
 valued : ℕ → Bool
 valued b = not (is_hex b) || eqb (b % 16 + 9 * (b / 64)) (digit b)
@@ -33,15 +35,14 @@ unfolding absent digit
 absent-table = refl
 
 module _ (b : ℕ) (h : b < 256) where
-  hex-ranges : is_ascii_hexdigit b ≡ is_hex b
+  pub hex-ranges : ranges b ≡ is_hex b
   unfolding ranged
-  hex-ranges = beq-eq _ (is_hex b) (below 256 ranged ranged-table b h)
+  hex-ranges = beq-eq (ranges b) (is_hex b) (below 256 ranged ranged-table b h)
 
-  -- a byte read as a digit
-  pub digit-read : value_of (then_some (is_ascii_hexdigit b) (b % 16 + 9 * (b / 64))) ≡ digit b
-  unfolding valued absent
-  digit-read = rw hex-ranges (go (is_hex b) refl)
-    where
-      go : (t : Bool) → is_hex b ≡ t → value_of (then_some t (b % 16 + 9 * (b / 64))) ≡ digit b
-      go true e = eqb-true _ _ (there (is_hex b) _ e (below 256 valued valued-table b h))
-      go false e = eqb-true _ _ (there (not (is_hex b)) _ (ap not e) (below 256 absent absent-table b h))
+  pub hex-value : is_hex b ≡ true → b % 16 + 9 * (b / 64) ≡ digit b
+  unfolding valued
+  hex-value e = eqb-true _ _ (there (is_hex b) _ e (below 256 valued valued-table b h))
+
+  pub hex-absent : not (is_hex b) ≡ true → 16 ≡ digit b
+  unfolding absent
+  hex-absent e = eqb-true _ _ (there (not (is_hex b)) _ e (below 256 absent absent-table b h))

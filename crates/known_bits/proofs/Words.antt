@@ -13,7 +13,11 @@ use lib.ListN.{length, get_or, drop, drop_of_length-le}
 use Rattle.little_endian.specs.Bytes.{Bytes, number_at}
 use Rattle.little_endian.proofs.Numbers.{number_past}
 use Rattle.std.proofs.lemmas.List.{get_or_default}
-use Rattle.std.proofs.lemmas.List.Sums.{sum_by-drop_more, sum_by-le}
+use Rattle.std.specs.List.{sum_by}
+use Rattle.std.specs.Simd.{first_chunks}
+use Rattle.std.proofs.lemmas.List.Sums.{sum_by-cons, sum_by-take-drop, sum_by-drop_more, sum_by-le}
+use lib.Seq.{drop-drop}
+use lib.ListN.{take}
 use Rattle.known_bits.specs.Known.{count_of}
 
 -- a byte in front of a number
@@ -23,6 +27,16 @@ ones-byte x n small = ap ones (add_comm x (256 * n) ∙ ap (λ (m : ℕ). m + x)
 -- past the end there is nothing to count
 count_past : (b : List ℕ) (at : ℕ) → length b ≤ at → count_of (drop at b) ≡ 0
 count_past b at past = ap count_of (drop_of_length-le b {i = at} past)
+
+-- the bits of so many words, and of the bytes behind them, are all
+pub words-count : (k : ℕ) (b : List ℕ) → sum_by count_of (first_chunks 8 k b) + count_of (drop (k * 8) b) ≡ count_of b
+words-count zero b = omega arith
+words-count (suc k) b =
+    let next : suc k * 8 ≡ 8 + k * 8 = omega arith in
+    let behind = ap count_of (drop-drop (k * 8) 8 b) in
+    rw next
+    (omega
+    (arith, words-count k (drop 8 b), behind, sum_by-cons count_of (take 8 b) (first_chunks 8 k (drop 8 b)), sum_by-take-drop ones b 8))
 
 module _ (b : List ℕ) (bytes : Bytes b) where
   -- so many bytes from a place on, and those behind them

@@ -28,8 +28,9 @@ fn count(map: &[u8]) -> usize
     requires { length map.now ≤ longest_map }
     ensures { result ≡ count_of map.now }
 {
-    let mut n = 0;
-    for word in map.chunks(8) {
+    let (words, rest) = map.as_chunks::<8>();
+    let mut n = word_ones(rest);
+    for word in words {
         n += word_ones(word);
     }
     n

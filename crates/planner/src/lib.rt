@@ -77,20 +77,24 @@ fn put_writes(text: &[u8], n: usize, out: &mut [u8]) -> usize
     let mut cursor = Cursor::new();
     loop {
         match cursor.next(text) {
-            Ok(Token::Segment {
-                address,
-                cursor: next,
-            }) => {
+            Ok(
+                Token::Segment {
+                    address,
+                    cursor: next,
+                },
+            ) => {
                 held = put(&core[..filled], LEAST, held, out);
                 filled = begin(address, &mut core);
                 cursor = next;
             }
-            Ok(Token::Byte {
-                address,
-                value,
-                cursor: next,
-                ..
-            }) => {
+            Ok(
+                Token::Byte {
+                    address,
+                    value,
+                    cursor: next,
+                    ..
+                },
+            ) => {
                 held = put(&core[..filled], FULL, held, out);
                 filled = begin_if_full(address, filled, &mut core);
                 core[filled] = value;
@@ -141,7 +145,13 @@ fn write(text: &[u8], password: &[u8], entry: u32, out: &mut [u8]) -> Result<usi
 }
 
 // The page's own script of a text over the front of the output, or a refusal.
-pub fn plan(text: &[u8], password: &[u8], entry: u32, size: usize, out: &mut [u8]) -> Result<usize, Refused>
+pub fn plan(
+    text: &[u8],
+    password: &[u8],
+    entry: u32,
+    size: usize,
+    out: &mut [u8],
+) -> Result<usize, Refused>
     ensures { left (said result) out.new ≡ plan_of text.now password.now entry size out.old }
 {
     if !region::size_good(size) {

@@ -8,8 +8,22 @@ ghost use Rattle.firmware_text.specs.Digit.{IsHex};
 ghost use Rattle.firmware_text.specs.Machine.{Line, sign, half, full, gap, quit, within};
 ghost use Rattle.text_cursor.specs.Walk.{from, near, line_state, stop_state, rest, beginning, Tells};
 ghost use Rattle.text_cursor.specs.Parts.{Numbered, end_from, DigitAt, behind, Beyond, ahead_image, Reached};
+ghost use Rattle.std.specs.Prelude.{IfSome};
+ghost use Rattle.firmware_text.specs.Digit.{digit, value_of};
 
-use firmware_text::digit_of;
+use firmware_text::digit_of as raw;
+
+// The value of a hex digit, none for any other byte: over 16 for none, since an Option handed on for each byte made the reader slower.
+fn digit_of(b: u8) -> Option<u8>
+    ensures value { value_of result ≡ digit b }
+    ensures small { IfSome result (λ value. value < 16) }
+{
+    let d = raw(b);
+    if 16 <= d {
+        return None;
+    }
+    Some(d)
+}
 
 // The pairs of a cursor at the start of a text, one more than a line can have.
 const START: u64 = 17;
@@ -62,14 +76,21 @@ struct Number {
 fn digit_at(text: &[u8], at: usize) -> Result<u8, usize>
     ensures { DigitAt text.now at result }
 {
-    text.get(at).and_then(|&b| digit_of(b)).ok_or(at)
+    if text.len() <= at {
+        return Err(at);
+    }
+    let d = raw(text[at]);
+    if 16 <= d {
+        return Err(at);
+    }
+    Ok(d)
 }
 
 // Whether the byte stands at a place.
 fn stands(text: &[u8], at: usize, b: u8) -> bool
     ensures { IsTrue result ↔ ((at < length text.now) × (get_or text.now at 0 ≡ b)) }
 {
-    text.get(at) == Some(&b)
+    at < text.len() && text[at] == b
 }
 
 // The place behind LF, or CR LF.

@@ -65,12 +65,14 @@ fn agrees(text: &[u8], buffer: &[u8]) -> bool
     loop {
         match cursor.next(text) {
             Ok(Token::Segment { cursor: next, .. }) => cursor = next,
-            Ok(Token::Byte {
-                address,
-                value,
-                cursor: next,
-                ..
-            }) => {
+            Ok(
+                Token::Byte {
+                    address,
+                    value,
+                    cursor: next,
+                    ..
+                },
+            ) => {
                 if !holds(buffer, address, value) {
                     return false;
                 }

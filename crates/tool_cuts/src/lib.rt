@@ -71,9 +71,7 @@ fn refused(rt: &impl Print, length: usize, size: usize) -> io::Result<()> {
 
 // Whether a card comes up in application mode with a region.
 fn starts(state: Loader, region: &[u8]) -> bool {
-    let up = power_cut::restarted(state, region);
-    let mode = up.mode;
-    loader::in_application(mode)
+    power_cut::restarted(state, region).mode == Mode::Application
 }
 
 // Whether a card comes up in application mode that was cut at a place of a packet; the region that the cut leaves is put

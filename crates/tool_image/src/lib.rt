@@ -7,12 +7,10 @@ mod sums;
 
 use arguments::{Command, Options};
 use byte_parts::{every, front, front_mut};
-use refusal::Refused;
 use report::{Line, System};
 use segments::{Segment, Segments};
 use std::io;
 use std::rt::{Env, Files};
-use text_image::Verdict;
 use tool_words::{lines, place};
 
 // The characters of a map.
@@ -115,9 +113,9 @@ fn show(
     region: &mut [u8],
 ) -> io::Result<()> {
     match ti_txt::read(text, size, region) {
-        Verdict::Refused { refusal, place } => place::refused(rt, text, Refused { refusal, place }),
-        Verdict::Sound if command == Command::Sums => sums::print(rt, text, size, region),
-        Verdict::Sound => print(rt, text, size, crc::checksum(crc::START, region)),
+        Err(refused) => place::refused(rt, text, refused),
+        Ok(()) if command == Command::Sums => sums::print(rt, text, size, region),
+        Ok(()) => print(rt, text, size, crc::checksum(crc::START, region)),
     }
 }
 

@@ -67,9 +67,9 @@ impl<'a> Iterator for Segments<'a> {
 }
 
 // The line that a token is, if that opens a segment.
-fn opened_by(token: Token) -> Option<Opening> {
+fn opened_by(token: Result<Token, usize>) -> Option<Opening> {
     match token {
-        Token::Segment { address, cursor } => Some(Opening { address, cursor }),
+        Ok(Token::Segment { address, cursor }) => Some(Opening { address, cursor }),
         _ => None,
     }
 }
@@ -80,7 +80,7 @@ fn end_of(text: &[u8], begin: Cursor) -> Ending {
     let mut cursor = begin;
     for count in 0..text.len() {
         match cursor.next(text) {
-            Token::Byte { cursor: next, .. } => cursor = next,
+            Ok(Token::Byte { cursor: next, .. }) => cursor = next,
             token => {
                 return Ending {
                     count,

@@ -20,7 +20,7 @@ fn rule(options: Options, second: Option<Name>, usual: Replacing) -> Rule {
 // The checksum of the picture of a text, which is put into a region for it. Where the text is refused, it
 // is that of the region as it was.
 fn image_checksum(text: &[u8], region: &mut [u8]) -> u16 {
-    ti_txt::read(text, region.len(), region);
+    let _ = ti_txt::read(text, region.len(), region);
     crc::checksum(crc::START, region)
 }
 

@@ -3,12 +3,10 @@ use crate::rule;
 use arguments::Options;
 use byte_parts::front_mut;
 use files::Replacing;
-use refusal::Refused;
 use report::System;
 use std::io;
 use std::random::RandomSource;
 use std::rt::{Env, Files};
-use text_image::Verdict;
 use tool_words::{lines, place};
 
 // Puts a region into its file, which may not be the text, and says what it is.
@@ -33,8 +31,8 @@ fn picture(
     region: &mut [u8],
 ) -> io::Result<()> {
     match ti_txt::read(text, options.size, region) {
-        Verdict::Refused { refusal, place } => place::refused(rt, text, Refused { refusal, place }),
-        Verdict::Sound => save(rt, options, region),
+        Err(refused) => place::refused(rt, text, refused),
+        Ok(()) => save(rt, options, region),
     }
 }
 

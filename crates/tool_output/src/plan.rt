@@ -3,8 +3,6 @@ use crate::{image_checksum, rule};
 use arguments::Options;
 use byte_parts::{front, front_mut};
 use files::{PASSWORD_ROOM, Replacing};
-use planner::Planned;
-use refusal::Refused;
 use report::System;
 use std::io;
 use std::random::RandomSource;
@@ -50,10 +48,8 @@ fn plan(
     region: &mut [u8],
 ) -> io::Result<()> {
     match planner::plan(text, password, options.entry, options.size, script) {
-        Planned::Refused { refusal, place } => {
-            place::refused(rt, text, Refused { refusal, place })
-        }
-        Planned::Written(n) => {
+        Err(refused) => place::refused(rt, text, refused),
+        Ok(n) => {
             let sum = image_checksum(text, front_mut(region, options.size));
             save(rt, options, text, front(script, n), sum)
         }

@@ -5,7 +5,6 @@ mod values;
 
 use arguments::Options;
 use report::System;
-use sensor_record::ReadRecord;
 use std::io;
 use std::rt::{Env, Files};
 use tool_words::cause;
@@ -16,8 +15,8 @@ const ROOM: usize = 65;
 // Prints a record, or says why it is refused.
 fn print(rt: &impl Print, bytes: &[u8]) -> io::Result<()> {
     match sensor_record::read(bytes) {
-        ReadRecord::Refused(why) => cause::refused(rt, why),
-        ReadRecord::Held(held) => values::print(rt, held),
+        Ok(values) => values::print(rt, values),
+        Err(why) => cause::refused(rt, why),
     }
 }
 

@@ -105,7 +105,7 @@ pub fn refused(
     cause::refused(rt, refusal)?;
     located(rt, script, text, refused, behind.packets)?;
     if refusal == Refusal::RefusedOverZeros {
-        let packet = packets::packet_at(script, at);
+        let packet = packets::packet_at(script, at).unwrap_or(&[]);
         let received = loader::receive(loader_behind(behind), region, password, packet);
         answered(rt, received.reply)?;
     }

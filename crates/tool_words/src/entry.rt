@@ -8,9 +8,11 @@ fn gives(text: &[u8], wanted: u64) -> bool {
     let mut cursor = Cursor::new();
     for _ in text {
         match cursor.next(text) {
-            Token::Byte { address, .. } if address == wanted => return true,
-            Token::Byte { cursor: next, .. } | Token::Segment { cursor: next, .. } => cursor = next,
-            Token::Refused(_) | Token::End => return false,
+            Ok(Token::Byte { address, .. }) if address == wanted => return true,
+            Ok(Token::Byte { cursor: next, .. } | Token::Segment { cursor: next, .. }) => {
+                cursor = next
+            }
+            Ok(Token::End) | Err(_) => return false,
         }
     }
     false

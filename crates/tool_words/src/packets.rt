@@ -1,5 +1,5 @@
 // The packets of a script, in words.
-ghost use Rattle.std.specs.Prelude.{◌-◌, ◌≤◌, length};
+ghost use Rattle.std.specs.Prelude.{◌-◌, ◌<◌, ◌≤◌, length, IfSome};
 ghost use Rattle.std.specs.Iterator.{at_most};
 
 use byte_parts::{behind, front};
@@ -50,10 +50,7 @@ impl<'a> Iterator for Packets<'a> {
     ghost remaining = { λ p. at_most (length p.script.now - p.at) };
 
     fn next(&mut self) -> Option<Packet<'a>> {
-        let bytes = packet_at(self.script, self.at);
-        if bytes.is_empty() {
-            return None;
-        }
+        let bytes = packet_at(self.script, self.at)?;
         let packet = Packet {
             number: self.number.saturating_add(1),
             at: self.at,
@@ -72,12 +69,13 @@ impl<'a> Packet<'a> {
     }
 }
 
-// The packet that a script has at an offset, nothing where the script ends before it does.
-pub fn packet_at(script: &[u8], at: usize) -> &[u8]
-    ensures { length result.now ≤ length script.now - at }
+// The packet that a script has at an offset, if it holds that whole.
+#[tactic(auto, unfolding(script::specs::Script::front_of))]
+pub fn packet_at(script: &[u8], at: usize) -> Option<&[u8]>
+    ensures { IfSome result (λ packet. (0 < length packet.now) × (length packet.now ≤ length script.now - at)) }
 {
     let rest = behind(script, at);
-    front(rest, script::front(rest))
+    Some(front(rest, script::front(rest)?))
 }
 
 // How many packets a script has.
@@ -139,11 +137,10 @@ fn cut(line: Line, packet: &[u8]) -> Line {
 
 // A line with the command of the packet at an offset of a script behind it.
 pub fn command_at(line: Line, script: &[u8], at: usize) -> Line {
-    let packet = packet_at(script, at);
-    if packet.is_empty() {
-        return cut(line, behind(script, at));
+    match packet_at(script, at) {
+        Some(packet) => command(line, packet),
+        None => cut(line, behind(script, at)),
     }
-    command(line, packet)
 }
 
 // A line with the acknowledgement of a packet behind it, and what it says.

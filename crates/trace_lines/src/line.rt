@@ -22,6 +22,7 @@ impl Model for Line {
     ghost invariant = { λ line. line.length ≤ 32 };
 }
 
+// Each part that is put behind a line asks for its own room, so that no one fact stands for all of them.
 impl Line {
     // A line of no bytes.
     pub(crate) fn new() -> Self

@@ -1,6 +1,7 @@
 -- The trace of a script (document 01, "Worked numbers", its last paragraph), and of the cuts of its packets (document 02, T-07).
 -- Assumes nothing.
-use Rattle.std.specs.Prelude.{Result, Ok, Err, cond, not, List, [], ◌∷◌, ◌++◌, ℕ, zero, suc, ◌+◌, ltb, length, drop, replicate}
+use Rattle.std.specs.Prelude.{Result, Ok, Err}
+use Rattle.std.specs.Prelude.{cond, not, List, [], ◌∷◌, ◌++◌, ℕ, zero, suc, ◌+◌, ltb, length, drop, replicate}
 use Rattle.little_endian.specs.Bytes.{stored_at}
 use Rattle.refusal.specs.Refusal.{number_of}
 use Rattle.refusal.specs.declared.Refusal.{Refusal}

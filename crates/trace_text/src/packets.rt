@@ -26,6 +26,7 @@ pub fn append_packets<S: Shown>(script: &[u8], card: Card, out: &mut [u8]) -> us
         0 out.old result out.new }
 {
     let mut card = card;
+    // Carried by hand: every line names the offset, and how long a packet is shows at its front alone.
     let mut at = 5;
     let mut held = 0;
     while !is_over(card.loader.mode, &script[at..]) {

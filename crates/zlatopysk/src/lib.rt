@@ -22,6 +22,7 @@ ghost use Rattle.zlatopysk.specs.Lent.{card_of, call_left, cut_left, restart_lef
 use application::Version;
 use card::Card;
 use loader::Loader;
+use refusal::Refused;
 
 // The register from a start over bytes: with the start 0xFFFF their checksum.
 #[unsafe(no_mangle)]
@@ -45,7 +46,7 @@ pub extern "C" fn zlatopysk_read(text: &[u8], size: usize, region: &mut [u8], an
     ensures { left answer.new region.new ≡ read_left (read_of text.now size region.old) }
 {
     let verdict = ti_txt::read(text, size, region);
-    *answer = numbers::of_verdict(verdict);
+    *answer = numbers::of_read(verdict);
 }
 
 // The script of the text over the front of the output.
@@ -177,7 +178,7 @@ pub extern "C" fn zlatopysk_read_record(bytes: &[u8], record: &mut [u8; 87], ans
             *record = record_layout::bytes(values);
             *answer = [0; 3];
         }
-        Err(why) => *answer = numbers::refused(why, 0, 0),
+        Err(why) => *answer = numbers::refused(Refused::from(why)),
     }
 }
 
@@ -190,7 +191,7 @@ pub extern "C" fn zlatopysk_write_record(record: &[u8; 87], out: &mut [u8], answ
     let values = record_layout::values(record);
     *answer = match sensor_record::write(values, out) {
         Ok(()) => [0; 3],
-        Err(why) => numbers::refused(why, 0, 0),
+        Err(why) => numbers::refused(Refused::from(why)),
     };
 }
 

@@ -12,33 +12,30 @@ ghost use Rattle.zlatopysk.specs.Numbers.{mode_number, mode_of, call_numbers, cu
 use card::{Called, Restarted};
 use checker::Checked;
 use loader::Mode;
-use planner::Planned;
-use refusal::Refusal;
-use text_image::Verdict;
+use refusal::{Refusal, Refused};
 
-// A refusal, and a count.
-pub fn refused(refusal: Refusal, place: usize, count: usize) -> [u64; 3]
-    ensures { result ≡ numbers (number_of refusal) place count }
+// A refusal at a place; it counts nothing.
+pub fn refused(why: Refused) -> [u64; 3]
+    ensures { result ≡ numbers (number_of why.refusal) why.place 0 }
 {
-    let number = refusal::number(refusal);
-    [number as u64, place as u64, count as u64]
+    [u64::from(u8::from(why.refusal)), why.place as u64, 0]
 }
 
-pub fn of_verdict(verdict: Verdict) -> [u64; 3]
-    ensures { result ≡ read_numbers (judged verdict) }
+pub fn of_read(answer: Result<(), Refused>) -> [u64; 3]
+    ensures { result ≡ read_numbers (judged answer) }
 {
-    match verdict {
-        Verdict::Sound => [0, 0, 0],
-        Verdict::Refused { refusal, place } => refused(refusal, place, 0),
+    match answer {
+        Ok(()) => [0, 0, 0],
+        Err(why) => refused(why),
     }
 }
 
-pub fn of_plan(planned: Planned) -> [u64; 3]
-    ensures { result ≡ plan_numbers (plan.said planned) }
+pub fn of_plan(answer: Result<usize, Refused>) -> [u64; 3]
+    ensures { result ≡ plan_numbers (plan.said answer) }
 {
-    match planned {
-        Planned::Refused { refusal, place } => refused(refusal, place, 0),
-        Planned::Written(length) => [0, 0, length as u64],
+    match answer {
+        Ok(length) => [0, 0, length as u64],
+        Err(why) => refused(why),
     }
 }
 
@@ -47,10 +44,8 @@ pub fn of_check(checked: Checked) -> [u64; 4]
 {
     let packets = checked.packets as u64;
     let unknown = checked.unknown as u64;
-    match checked.answer {
-        Ok(()) => [0, 0, packets, unknown],
-        Err(why) => [u64::from(u8::from(why.refusal)), why.place as u64, packets, unknown],
-    }
+    let [number, place, _] = of_read(checked.answer);
+    [number, place, packets, unknown]
 }
 
 // The C interface has modes as numbers; one other than 0, 1 and 2 counts as locked.
@@ -81,7 +76,7 @@ pub fn of_call(called: Called) -> [u64; 4]
 {
     let mode = mode_number(called.card.loader.mode);
     match called.answer {
-        Err(why) => [u8::from(why) as u64, 0, 0, mode],
+        Err(why) => [u64::from(u8::from(why)), 0, 0, mode],
         Ok(replied) => [0, replied.count as u64, u64::from(replied.success), mode],
     }
 }
@@ -90,7 +85,7 @@ pub fn of_cut(answer: Result<(), Refusal>) -> [u64; 3]
     ensures { result ≡ cut_numbers (ending_of answer) }
 {
     match answer {
-        Err(why) => refused(why, 0, 0),
+        Err(why) => refused(Refused::from(why)),
         Ok(()) => [0, 0, 0],
     }
 }
@@ -101,7 +96,7 @@ pub fn of_restart(restarted: Restarted) -> [u64; 2]
 {
     let mode = mode_number(restarted.card.loader.mode);
     match restarted.answer {
-        Err(why) => [u8::from(why) as u64, mode],
+        Err(why) => [u64::from(u8::from(why)), mode],
         Ok(()) => [0, mode],
     }
 }

@@ -1,26 +1,32 @@
--- `known_bits::count` meets its contract: the bits counted and those of the bytes left are all.
+-- `known_bits::count` meets its contract: the bits of the words that were counted, and of the bytes behind all words.
 -- Assumes nothing.
-use Rattle.std.proofs.Common.{◌≡◌, ◌∙◌, ◌+◌, ℕ, List, ◌++◌, ap, arith}
-use Rattle.std.specs.Int.Count.{ones}
-use Rattle.std.specs.Slice.Iter.{chunks_rest}
-use Rattle.std.proofs.lemmas.List.Sums.{sum_by-append}
+use Rattle.std.proofs.Common.{◌≡◌, ℕ, [], ◌/◌, length, take, ap, ◌∙◌, arith}
+use Rattle.std.specs.List.{sum_by}
+use Rattle.std.proofs.Math.Seq.{take-length}
+use Rattle.std.proofs.lemmas.List.Sums.{sum_by_more_le}
 use Rattle.known_bits.specs.Known.{count_of}
-use Rattle.known_bits.proofs.Words.{count-most}
+use Rattle.known_bits.proofs.Words.{words-count, count-most}
 use Rattle.known_bits.proofs.count.Goals as goal
-
--- the bits of a word and of what is left behind it
-word-rest : (word rest all : List ℕ) → all ≡ word ++ rest → count_of all ≡ count_of word + count_of rest
-word-rest word rest all e = ap count_of e ∙ sum_by-append ones word rest
 
 pub overflow_add-n : goal.overflow_add-n
 overflow_add-n c =
-    let most = count-most c.args.map.now (λ i. (c.type_inv.map i).fits) in
-    let step = rw c.in-Some.is at c.next.ensures.steps.1 in
-    let rest = word-rest c.in-Some.word.now (chunks_rest c.next.new.self) (chunks_rest c.loop-word.word-iterator) step.0 in
-    record { fits = omega (arith, most, rest) }
+    let map = c.args.map.now in
+    let chunks = c.as_chunks in
+    let most = count-most map (λ i. (c.type_inv.map i).fits) in
+    let words = ap (sum_by count_of) chunks.ensures.front in
+    let rest = ap count_of chunks.ensures.back in
+    let more = sum_by_more_le count_of chunks.result.0.now c.loop-word.word-index [] (omega arith) in
+    record {
+      fits = omega
+          (arith, most, words-count (length map / 8) map, words, rest, more, c.word_ones-n.ensures, c.loop-word.invariant, c.word_ones-n-in-loop-word.ensures);
+    }
 
-pub loop-word-preserved : goal.loop-word-preserved
-loop-word-preserved c =
-    let step = rw c.in-Some.is at c.next.ensures.steps.1 in
-    let rest = word-rest c.in-Some.word.now (chunks_rest c.next.new.self) (chunks_rest c.loop-word.word-iterator) step.0 in
-    (omega (arith, rest), c.next.ensures.steps.0 ∙ c.loop-word.invariant.1)
+pub returns : goal.returns
+returns c =
+    let map = c.args.map.now in
+    let chunks = c.as_chunks in
+    let words = ap (sum_by count_of) chunks.ensures.front in
+    let rest = ap count_of chunks.ensures.back in
+    let last : c.loop-word.word-index ≡ length chunks.result.0.now = omega arith in
+    let whole = ap (λ (n : ℕ). sum_by count_of (take n chunks.result.0.now)) last ∙ ap (sum_by count_of) (take-length chunks.result.0.now) in
+    omega (arith, words-count (length map / 8) map, words, rest, whole, c.word_ones-n.ensures, c.loop-word.invariant)

@@ -20,7 +20,7 @@ loop-address-preserved c =
   where
     here : marked c.args.map.now c.loop-address.address ≡ false → get_or c.args.buffer.now c.loop-address.address 0 ≡ 255
     here clear = elim c.else-value.branch [
-      else-value-via-then-value+else-not-is_marked w ↦ absurd (false≢true (sym clear ∙ sym w.is_marked.ensures ∙ w.if-not-is_marked.false))
+      | else-value-via-then-value+else-not-is_marked w ↦ absurd (false≢true (sym clear ∙ sym w.is_marked.ensures ∙ w.if-not-is_marked.false))
       | else-value-via-else-value w ↦ w.if-value.false
     ]
 

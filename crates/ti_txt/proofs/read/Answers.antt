@@ -1,7 +1,6 @@
 -- `ti_txt::read` meets its contract, by what its callees ensure.
 -- Assumes nothing.
 use mathlib.Core.Path.{◌≡◌, refl, sym, ap, subst, ◌∙◌}
-use lib.ListN.{length}
 use borrow.Author.Tests.{ne_eqb}
 use Rattle.std.proofs.Common.{Result, Err}
 use Rattle.std.proofs.lemmas.Result.{err_from_is_err_and}
