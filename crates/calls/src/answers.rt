@@ -1,4 +1,5 @@
 // Calls, answered.
+use card::Replied;
 use loader::Mode;
 use refusal::Refusal;
 use std::io;
@@ -22,12 +23,12 @@ pub fn refused(rt: &impl Print, why: Refusal, kept: bool) -> io::Result<()> {
 // The bytes of a reply, and whether the rest of its buffer is as it was.
 pub fn replied(
     rt: &impl Print,
-    count: usize,
-    success: bool,
+    said: Replied,
     mode: Mode,
     region: &[u8],
     reply: &[u8],
 ) -> io::Result<()> {
+    let Replied { count, success } = said;
     print!(rt; " {count}")?;
     let Some((reply, rest)) = reply.split_at_checked(count) else {
         return print!(rt; " above the buffer's length");

@@ -2,7 +2,7 @@
 use crate::answers;
 use application::Version;
 use byte_parts::behind;
-use card::{Answer, Card};
+use card::Card;
 use loader::{Loader, Mode};
 use std::alloc::{AllocError, Global};
 use std::io;
@@ -75,15 +75,14 @@ impl Bench {
         let after = called.card;
         self.card = after;
         match called.answer {
-            Answer::Refused(why) => {
-                let kept = same_state(before, after)
+            Err(why) => {
+                let kept = after.loader.mode == before.loader.mode
+                    && after.loader.expected == before.loader.expected
                     && crc::checksum(crc::START, region) == sum
                     && byte_parts::every(reply, answers::BEFORE);
                 answers::refused(rt, why, kept)
             }
-            Answer::Replied { count, success } => {
-                answers::replied(rt, count, success, after.loader.mode, region, reply)
-            }
+            Ok(said) => answers::replied(rt, said, after.loader.mode, region, reply),
         }
     }
 
@@ -113,21 +112,6 @@ impl Bench {
             None => print!(rt; ", no region of that length"),
         }
     }
-}
-
-// A number for each mode.
-fn mode_number(mode: Mode) -> u8 {
-    match mode {
-        Mode::Application => 0,
-        Mode::Locked => 1,
-        Mode::Unlocked => 2,
-    }
-}
-
-// Whether two cards have the same mode and expect the same checksum.
-fn same_state(a: Card, b: Card) -> bool {
-    mode_number(a.loader.mode) == mode_number(b.loader.mode)
-        && a.loader.expected == b.loader.expected
 }
 
 // The mode that a word begins as.

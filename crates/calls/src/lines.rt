@@ -17,12 +17,12 @@ fn answer(rt: &(impl Print + AllocGlobal), bench: &mut Bench, words: &[u8]) -> i
     packets::put(rt, behind(rest, order.len()), &mut bytes)?;
     match order {
         b"call" => {
-            bench.call(rt, &bytes.bytes)?;
+            bench.call(rt, bytes.bytes())?;
             bench.lent = before;
             Ok(())
         }
-        b"key" => bench.key(rt, &bytes.bytes),
-        b"record" => bench.record(rt, &bytes.bytes),
+        b"key" => bench.key(rt, bytes.bytes()),
+        b"record" => bench.record(rt, bytes.bytes()),
         _ => bench.state(rt),
     }
 }

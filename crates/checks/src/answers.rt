@@ -1,7 +1,6 @@
 // Scripts, checked and answered.
 use crate::settings::Setup;
-use checker::{Answer, Checked};
-use refusal::Refused;
+use checker::Checked;
 use std::io;
 use vector_lines::{secret, show};
 
@@ -15,15 +14,8 @@ fn expected(setup: Setup, text: &[u8], region: &mut [u8]) -> u16 {
     if let Some(sum) = setup.expected {
         return sum;
     }
-    ti_txt::read(text, setup.size, region);
+    let _ = ti_txt::read(text, setup.size, region);
     crc::checksum(crc::START, region)
-}
-
-fn verdict(rt: &impl Print, answer: Answer) -> io::Result<()> {
-    match answer {
-        Answer::Passed => print!(rt; " pass"),
-        Answer::Refused { refusal, place } => show::refused(rt, Refused { refusal, place }),
-    }
 }
 
 // Lent memory: its checksum, and whether it is as it was lent.
@@ -36,7 +28,10 @@ fn described(rt: &impl Print, lent: &[u8]) -> io::Result<()> {
 fn shown(rt: &impl Print, checked: Checked, region: &[u8], known: &[u8]) -> io::Result<()> {
     let packets = checked.packets;
     let unknown = checked.unknown;
-    verdict(rt, checked.answer)?;
+    match checked.answer {
+        Ok(()) => print!(rt; " pass")?,
+        Err(refused) => show::refused(rt, refused)?,
+    }
     print!(rt; ", {packets} packets, {unknown} unknown, region")?;
     described(rt, region)?;
     print!(rt; ", known")?;

@@ -19,7 +19,7 @@ fn answer(rt: &(impl Print + AllocGlobal), case: &[u8]) -> io::Result<()> {
         size: setup.size,
     };
     let script = planning.script_of(rt, steps)?;
-    answers::answer(rt, setup, &script.bytes, &text)
+    answers::answer(rt, setup, script.bytes(), &text)
 }
 
 pub fn run(rt: &(impl Print + AllocGlobal), input: &[u8]) -> io::Result<()> {

@@ -1,6 +1,5 @@
 // The script of a line, made step by step; what its room does not hold is left out.
 use byte_parts::{behind, front};
-use planner::Planned;
 use std::io;
 use vector_lines::room::Room;
 use vector_lines::{cut, hex_of, number_of, packets, secret};
@@ -36,14 +35,8 @@ impl Planning<'_> {
         let secret = secret();
         let mut out = vec![in rt.alloc(); 0; script.left()]?;
         match planner::plan(self.text, front(&secret, 256), entry, self.size, &mut out) {
-            Planned::Refused {
-                refusal: _,
-                place: _,
-            } => print!(rt; " no plan"),
-            Planned::Written(n) => {
-                script.put(front(&out, n))?;
-                Ok(())
-            }
+            Ok(n) => Ok(script.put(front(&out, n))?),
+            Err(_) => print!(rt; " no plan"),
         }
     }
 

@@ -1,8 +1,6 @@
 // Plans, answered.
 use crate::packets;
 use crate::packets::Packet;
-use planner::Planned;
-use refusal::Refused;
 use std::io;
 use vector_lines::show;
 
@@ -27,10 +25,8 @@ impl Plan<'_> {
     // The text planned over an output that every byte of is BEFORE.
     pub fn answer(&self, rt: &(impl Print + AllocGlobal), out: &mut [u8]) -> io::Result<()> {
         match planner::plan(self.text, self.password, self.entry, self.size, out) {
-            Planned::Refused { refusal, place } => {
-                show::refused_and_kept(rt, Refused { refusal, place }, out, BEFORE)
-            }
-            Planned::Written(n) => self.written(rt, n, out),
+            Ok(n) => self.written(rt, n, out),
+            Err(refused) => show::refused_and_kept(rt, refused, out, BEFORE),
         }
     }
 
@@ -64,7 +60,7 @@ impl Plan<'_> {
         }
         let mut picture = vec![in rt.alloc(); 0; self.size]?;
         let mut region = vec![in rt.alloc(); OLD; self.size]?;
-        ti_txt::read(self.text, self.size, &mut picture);
+        let _ = ti_txt::read(self.text, self.size, &mut picture);
         let expected = crc::checksum(crc::START, &picture);
         let sent = packets::send(packets, expected, self.password, &mut region);
         let succeeded = sent.succeeded;

@@ -23,6 +23,7 @@ pub struct Sent {
 }
 
 // The packets of a script, unless its head is not right or it ends inside a packet.
+#[tactic(auto, unfolding(script::specs::Script::front_of))]
 pub fn of(alloc: Global, script: &[u8]) -> Result<Option<Vec<Packet<'_>>>, AllocError> {
     if !script::is_headed(script) {
         return Ok(None);
@@ -30,13 +31,10 @@ pub fn of(alloc: Global, script: &[u8]) -> Result<Option<Vec<Packet<'_>>>, Alloc
     let mut packets = Vec::new(alloc);
     let mut rest = behind(script, HEAD);
     while !rest.is_empty() {
-        let n = script::front(rest);
-        let Some((bytes, others)) = rest.split_at_checked(n) else {
+        let Some(n) = script::front(rest) else {
             return Ok(None);
         };
-        if n == 0 {
-            return Ok(None);
-        }
+        let (bytes, others) = rest.split_at(n);
         let at = script.len() - rest.len();
         packets.push(Packet { at, bytes })?;
         rest = others;

@@ -1,8 +1,6 @@
 // The lines of texts: each text made, read into a region, and answered.
 use byte_parts::behind;
-use refusal::Refused;
 use std::io;
-use text_image::Verdict;
 use vector_lines::words::text_of;
 use vector_lines::{number_of, show};
 
@@ -12,13 +10,11 @@ const BEFORE: u8 = 0xA5;
 // A text read into a region.
 fn read(rt: &impl Print, text: &[u8], size: usize, region: &mut [u8]) -> io::Result<()> {
     match ti_txt::read(text, size, region) {
-        Verdict::Sound => {
+        Ok(()) => {
             print!(rt; " filled")?;
             show::checksum(rt, region)
         }
-        Verdict::Refused { refusal, place } => {
-            show::refused_and_kept(rt, Refused { refusal, place }, region, BEFORE)
-        }
+        Err(refused) => show::refused_and_kept(rt, refused, region, BEFORE),
     }
 }
 

@@ -62,11 +62,11 @@ fn put_packet(rt: &impl Print, words: &[u8], out: &mut Room) -> io::Result<()> {
     let alloc = *out.bytes.allocator();
     let mut core = Room::new(alloc, CORE);
     put_plain(words, &mut core)?;
-    let mut message = vec![in alloc; 0; core.bytes.len() + 5]?;
+    let mut message = vec![in alloc; 0; core.bytes().len() + 5]?;
     if out.left() < message.len() {
         return print!(rt; " no room for the packet");
     }
-    if !packet::write(&core.bytes, &mut message) {
+    if !packet::write(core.bytes(), &mut message) {
         return print!(rt; " no packet around this core");
     }
     out.put(&message)?;

@@ -23,6 +23,12 @@ impl Room {
         }
     }
 
+    pub fn bytes(&self) -> &[u8]
+        ensures { result.now ≡ self.now.bytes.items }
+    {
+        &self.bytes
+    }
+
     // How many bytes there is room for.
     pub fn left(&self) -> usize
         ensures { result ≡ self.now.size - vec_len self.now.bytes }

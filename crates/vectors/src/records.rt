@@ -2,7 +2,6 @@
 use byte_parts::behind;
 use little_endian::{Number, byte_at};
 use refusal::Refusal;
-use sensor_record::{ReadRecord, WroteRecord};
 use sensor_values::{
     BoardSensors, BoardStatus, Device, DeviceStatus, ErrorCounters, FlashControl, InputSensor,
     ModuleStatus, NetworkModule, SecurityStatus, SensorRecord,
@@ -145,8 +144,8 @@ fn values(rt: &impl Print, r: SensorRecord) -> io::Result<()> {
 // A record read.
 pub fn read(rt: &impl Print, bytes: &[u8]) -> io::Result<()> {
     match sensor_record::read(bytes) {
-        ReadRecord::Refused(why) => refused(rt, why),
-        ReadRecord::Held(held) => values(rt, held),
+        Ok(record) => values(rt, record),
+        Err(why) => refused(rt, why),
     }
 }
 
@@ -266,8 +265,8 @@ fn made(v: [u8; 28]) -> SensorRecord {
 // A record written over bytes ee, and the output then.
 fn write_over(rt: &impl Print, values: SensorRecord, out: &mut [u8]) -> io::Result<()> {
     match sensor_record::write(values, out) {
-        WroteRecord::Refused(why) => refused(rt, why)?,
-        WroteRecord::Written => print!(rt; " written")?,
+        Ok(()) => print!(rt; " written")?,
+        Err(why) => refused(rt, why)?,
     }
     if byte_parts::every(out, 0xEE) {
         return print!(rt; ", output as it was");
@@ -289,10 +288,7 @@ pub fn write(rt: &impl Print, bytes: &[u8]) -> io::Result<()> {
 // Whether values are written as the bytes that they were read from.
 fn written_again(values: SensorRecord, bytes: &[u8]) -> bool {
     let mut out = [0xEEu8; 64];
-    match sensor_record::write(values, &mut out) {
-        WroteRecord::Refused(_) => false,
-        WroteRecord::Written => out.as_slice() == bytes,
-    }
+    sensor_record::write(values, &mut out).is_ok() && out.as_slice() == bytes
 }
 
 // Whether a record with one more bit set is read, and written as it was.
@@ -302,10 +298,7 @@ fn taken(base: [u8; 64], at: usize, bit: u8) -> bool {
         return false;
     };
     *byte |= 1 << (bit % 8);
-    match sensor_record::read(&bytes) {
-        ReadRecord::Refused(_) => false,
-        ReadRecord::Held(values) => written_again(values, &bytes),
-    }
+    sensor_record::read(&bytes).is_ok_and(|values| written_again(values, &bytes))
 }
 
 fn mark(rt: &impl Print, base: [u8; 64], at: usize, bit: u8) -> io::Result<()> {
