@@ -90,7 +90,8 @@ module _ (script text password : List ℕ) (expected n : ℕ) (region known : Li
       (single (run_of script (picture_of n (image_of text)) password expected n)) ≡ one_of script text password expected n region known
   unfolding one_of
   check-by s e =
-      ap (λ (x : Said). unless_refused_one x region known (single (run_of script (picture_of n (image_of text)) password expected n))) (sym e)
+      ap (λ (x : Said). unless_refused_one x region known (single (run_of script (picture_of n (image_of text)) password expected n)))
+      (sym e)
 
   -- what is answered, and what it is worth
   pub upheld : (c : One) → c ≡ one_of script text password expected n region known

@@ -66,7 +66,8 @@ module _ (from end : ℕ) (map : List ℕ) (ordered : from ≤ end) (fits : end 
   unfolding marked
   adds-filled a = go (leb (from / 8) (a / 8)) (ltb (a / 8) (end / 8)) refl refl
     where
-      kept : get_or filled (a / 8) 0 ≡ get_or map (a / 8) 0 → between from end a ≡ false → marked filled a ≡ (between from end a || marked map a)
+      kept : get_or filled (a / 8) 0 ≡ get_or map (a / 8) 0 → between from end a ≡ false
+          → marked filled a ≡ (between from end a || marked map a)
       kept e none = ap (λ (x : ℕ). eqb (x / 2 ^ (a % 8) % 2) 1) e ∙ ap (λ (t : Bool). t || marked map a) (sym none)
 
       go : (l h : Bool) → leb (from / 8) (a / 8) ≡ l → ltb (a / 8) (end / 8) ≡ h → marked filled a ≡ (between from end a || marked map a)

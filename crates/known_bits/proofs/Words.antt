@@ -50,7 +50,8 @@ module _ (b : List ℕ) (bytes : Bytes b) where
           → ones (get_or b at 0 + 256 * number_at count (at + 1) b) + count_of (drop (at + suc count) b) ≡ count_of (drop at b)
       go true e more =
           let next : at + suc count ≡ at + 1 + count = omega arith in
-          rw next (omega (arith, more, ones-byte (get_or b at 0) (number_at count (at + 1) b) (bytes at), sum_by-drop_more ones b at 0 (ltb-true _ _ e)))
+          let front = ones-byte (get_or b at 0) (number_at count (at + 1) b) (bytes at) in
+          rw next (omega (arith, more, front, sum_by-drop_more ones b at 0 (ltb-true _ _ e)))
       go false e more =
           let past : length b ≤ at = ltb-false _ _ e in
           let none : get_or b at 0 + 256 * number_at count (at + 1) b ≡ 0 = number_past (suc count) at b past in

@@ -1,6 +1,7 @@
 -- Known bits: a bit for each byte of a region, the low bit of each byte first, set where the byte is known (document 02, T-09).
 -- Assumes nothing.
-use Rattle.std.specs.Prelude.{Bool, cond, ◌&&◌, ◌||◌, List, [], ◌∷◌, ◌≡◌, ℕ, zero, suc, ◌+◌, ◌-◌, ◌*◌, ◌/◌, ◌<◌, eqb, leb, ltb, length, get_or, drop, sum_by}
+use Rattle.std.specs.Prelude.{Bool, cond, ◌&&◌, ◌||◌, List, [], ◌∷◌, length, get_or, drop, sum_by}
+use Rattle.std.specs.Prelude.{◌≡◌, ℕ, zero, suc, ◌+◌, ◌-◌, ◌*◌, ◌/◌, ◌<◌, eqb, leb, ltb}
 use Rattle.std.specs.Int.Count.{ones}
 use Rattle.address_set.specs.Bits.{marked}
 

@@ -52,7 +52,8 @@ returns-in_default c =
     c.found.ensures (trial l.state l.region) s.ones s.tells
     ∙ ap single
     (stand-end _ a.password.now (pictured a.text.now a.region.now) a.script.now (trial l.state l.region) l.known l.at l.packets s
-    mode.result (mode.ensures ∙ compared l.state.mode) (sym c.packet_ahead.ensures ∙ is_none c.packet_ahead.result c.in_default.not-Some) _ c.ended.ensures)
+    mode.result (mode.ensures ∙ compared l.state.mode)
+    (sym c.packet_ahead.ensures ∙ is_none c.packet_ahead.result c.in_default.not-Some) _ c.ended.ensures)
 
 pub slice_bounds-run_packet-end : goal.slice_bounds-run_packet-end
 slice_bounds-run_packet-end c =
@@ -78,7 +79,8 @@ returns-in-Err c =
     c.in-Err.is l.invariant.3 (ap (take k) (part-tail script l.at)) (ran.ensures s.ones s.tells) in
     c.found-in-Err.ensures (trial l.state ran.new.region) two.ones follows.tells
     ∙ ap single
-    (stand-refused _ a.password.now (pictured a.text.now a.region.now) script zeros l.known l.at l.packets s k mode.result (mode.ensures ∙ compared l.state.mode) w
+    (stand-refused _ a.password.now (pictured a.text.now a.region.now) script zeros l.known l.at l.packets s k
+    mode.result (mode.ensures ∙ compared l.state.mode) w
     (number_of c.in-Err.refusal) (trial l.state ran.new.region) ran.new.known (some_number c.in-Err.refusal) follows)
 
 pub overflow_add-at : goal.overflow_add-at
@@ -107,7 +109,8 @@ loop-length-preserved c =
     let follows = follow-as _ _ a.password.now a.text.now _ (take k (drop l.at script)) _ (length a.region.now) zeros
     s.ones l.state _ _
     c.in-Ok.is l.invariant.3 (ap (take k) (part-tail script l.at)) (ran.ensures s.ones s.tells) in (
-      stand-next _ a.password.now (pictured a.text.now a.region.now) script zeros l.known l.at l.packets s k mode.result (mode.ensures ∙ compared l.state.mode) w
+      stand-next _ a.password.now (pictured a.text.now a.region.now) script zeros l.known l.at l.packets s k
+          mode.result (mode.ensures ∙ compared l.state.mode) w
           _ _ follows,
       w.fits,
       omega (arith, l.invariant.2, w.is),

@@ -16,9 +16,10 @@ pictured text region = picture_of (length region) (image_of text)
 
 abbrev pub invariant-loop-length : goal.invariant-loop-length
 invariant-loop-length l =
-    Stands (run_of l.script (pictured l.text l.initial.region) l.password l.expected (length l.initial.region)) l.password (pictured l.text l.initial.region) l.script
-    (trial l.state l.region) l.known l.at l.packets
-    × (l.at ≤ length l.script) × (l.packets ≤ l.at) × (length l.region ≡ length l.initial.region) × (length l.known ≡ length l.initial.known)
+    Stands (run_of l.script (pictured l.text l.initial.region) l.password l.expected (length l.initial.region)) l.password
+    (pictured l.text l.initial.region) l.script (trial l.state l.region) l.known l.at l.packets
+    × (l.at ≤ length l.script) × (l.packets ≤ l.at) × (length l.region ≡ length l.initial.region)
+    × (length l.known ≡ length l.initial.known)
 
 abbrev pub decreases-loop-length : goal.decreases-loop-length
 decreases-loop-length l = length l.script - l.at

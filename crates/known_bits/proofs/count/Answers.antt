@@ -16,10 +16,9 @@ overflow_add-n c =
     let words = ap (sum_by count_of) chunks.ensures.front in
     let rest = ap count_of chunks.ensures.back in
     let more = sum_by_more_le count_of chunks.result.0.now c.loop-word.word-index [] (omega arith) in
-    record {
-      fits = omega
-          (arith, most, words-count (length map / 8) map, words, rest, more, c.word_ones-n.ensures, c.loop-word.invariant, c.word_ones-n-in-loop-word.ensures);
-    }
+    let word = c.word_ones-n-in-loop-word.ensures in
+    let all = words-count (length map / 8) map in
+    record { fits = omega (arith, most, all, words, rest, more, c.word_ones-n.ensures, c.loop-word.invariant, word) }
 
 pub returns : goal.returns
 returns c =
@@ -28,5 +27,6 @@ returns c =
     let words = ap (sum_by count_of) chunks.ensures.front in
     let rest = ap count_of chunks.ensures.back in
     let last : c.loop-word.word-index ≡ length chunks.result.0.now = omega arith in
-    let whole = ap (λ (n : ℕ). sum_by count_of (take n chunks.result.0.now)) last ∙ ap (sum_by count_of) (take-length chunks.result.0.now) in
+    let whole =
+    ap (λ (n : ℕ). sum_by count_of (take n chunks.result.0.now)) last ∙ ap (sum_by count_of) (take-length chunks.result.0.now) in
     omega (arith, words-count (length map / 8) map, words, rest, whole, c.word_ones-n.ensures, c.loop-word.invariant)
