@@ -8,7 +8,7 @@ pub mod room;
 pub mod show;
 pub mod words;
 
-ghost use Rattle.std.specs.Prelude.{◌≡◌, ◌-◌, ◌*◌, ◌^◌, ◌<◌, ◌≤◌, length, IfSome};
+ghost use Rattle.std.specs.Prelude.{[], ◌∷◌, ◌++◌, Contains, ◌≡◌, ◌-◌, ◌*◌, ◌^◌, ◌<◌, ◌≤◌, length, IfSome};
 
 use byte_parts::behind;
 use std::alloc::{AllocError, Global};
@@ -64,6 +64,9 @@ pub fn label<'a>(rt: &impl Print, line: &'a [u8]) -> io::Result<&'a [u8]> {
 
 // What stands before the first such byte, and what behind it: nothing if there is none.
 pub fn cut(words: &[u8], end: u8) -> (&[u8], &[u8])
+    ensures cut { Contains words.now end → words.now ≡ result.0.now ++ end ∷ result.1.now }
+    ensures first { Contains result.0.now end → ⊥ }
+    ensures whole { (Contains words.now end → ⊥) → (result.0.now ≡ words.now) × (result.1.now ≡ []) }
     ensures part { length result.0.now ≤ length words.now }
     ensures rest { length result.1.now ≤ length words.now - 1 }
 {

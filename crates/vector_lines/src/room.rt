@@ -17,10 +17,8 @@ impl Room {
         ensures empty { result.bytes.items ≡ [] }
         ensures size { result.size ≡ size }
     {
-        Room {
-            bytes: Vec::new(alloc),
-            size,
-        }
+        let bytes = Vec::new(alloc);
+        Room { bytes, size }
     }
 
     pub fn bytes(&self) -> &[u8]
