@@ -37,8 +37,10 @@ pub fn too_long() -> Error {
 
 // A path as it is asked for, if it is text.
 pub fn text(path: &[u8]) -> io::Result<&str> {
-    str::from_utf8(path)
-        .map_err(|_| Error::new(ErrorKind::InvalidFilename, "the name is not UTF-8"))
+    str::from_utf8(path).map_err(|_| Error::new(
+        ErrorKind::InvalidFilename,
+        "the name is not UTF-8",
+    ))
 }
 
 // What stands at a path. It is an error where the system does not say, or the path is too long to be asked for.
