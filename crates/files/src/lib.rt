@@ -74,6 +74,7 @@ fn is_done(rt: &impl System, name: &[u8], written: Result<(), Reason>) -> bool {
 fn read_all(rt: &impl Files, path: &[u8], room: &mut [u8]) -> io::Result<usize> {
     let mut file = fs::open(rt, tool_paths::text(path)?)?;
     let mut held = 0;
+    // A read may give less than there is room for, and std's `read_to_end` wants heap: so this counts what is held.
     while held < room.len() {
         match file.read(&mut room[held..])? {
             0 => break,

@@ -1,6 +1,6 @@
 // Lines of a report: a line goes in by value and comes back with words or numbers behind what it had, and
 // is printed whole. What a line has no room for is left out. None of these functions asks anything of its
-// input.
+// input. One `println!` would not do: columns are counted from what a line holds, and a name from outside need not be text.
 #![tactic(auto)]
 
 ghost use Rattle.std.specs.Prelude.{length};
