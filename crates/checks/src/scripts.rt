@@ -65,6 +65,7 @@ impl Planning<'_> {
     // The script that steps make, with a comma and a space between them.
     pub fn script_of(&self, rt: &(impl Print + AllocGlobal), steps: &[u8]) -> io::Result<Room> {
         let mut script = Room::new(rt.alloc(), input_rooms::SCRIPT);
+        // A slice is split by one byte, and two stand between steps.
         let mut rest = steps;
         while !rest.is_empty() {
             let (step, others) = cut(rest, b',');

@@ -29,6 +29,7 @@ pub fn of(alloc: Global, script: &[u8]) -> Result<Option<Vec<Packet<'_>>>, Alloc
         return Ok(None);
     }
     let mut packets = Vec::new(alloc);
+    // Where a packet ends shows at its own front alone.
     let mut rest = behind(script, HEAD);
     while !rest.is_empty() {
         let Some(n) = script::front(rest) else {

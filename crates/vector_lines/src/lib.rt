@@ -87,6 +87,7 @@ pub trait Settings {
 pub fn read_settings<'a, S: Settings>(words: &'a [u8], into: &mut S) -> &'a [u8]
     ensures { length result.now ≤ length words.now }
 {
+    // A split hands back no rest, so the words are cut one by one.
     let mut rest = words;
     while !rest.is_empty() {
         let (name, values) = cut(rest, b' ');

@@ -75,6 +75,7 @@ fn put_packet(rt: &impl Print, words: &[u8], out: &mut Room) -> io::Result<()> {
 
 // Puts the bytes that words stand for.
 pub fn put(rt: &impl Print, words: &[u8], out: &mut Room) -> io::Result<()> {
+    // Each bracket ends only what the other kind began, so the words are cut by turns and not split.
     let mut rest = words;
     while !rest.is_empty() {
         let (plain, others) = cut(rest, b'(');
