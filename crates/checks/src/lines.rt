@@ -8,7 +8,7 @@ use vector_lines::words::text_of;
 use vector_lines::{cut, read_settings};
 
 // The answer to settings, steps and a text, with a stroke and a space between.
-fn answer(rt: &(impl Print + AllocGlobal), case: &[u8]) -> io::Result<()> {
+fn answer(rt: &(impl Print + AllocGlobal), case: &[u8], earlier: &mut [u8]) -> io::Result<()> {
     let (settings, rest) = cut(case, b'|');
     let (steps, words) = cut(behind(rest, 1), b'|');
     let mut setup = Setup::new();
@@ -18,10 +18,11 @@ fn answer(rt: &(impl Print + AllocGlobal), case: &[u8]) -> io::Result<()> {
         text: &text,
         size: setup.size,
     };
-    let script = planning.script_of(rt, steps)?;
+    let script = planning.script_of(rt, steps, earlier)?;
     answers::answer(rt, setup, script.bytes(), &text)
 }
 
 pub fn run(rt: &(impl Print + AllocGlobal), input: &[u8]) -> io::Result<()> {
-    vector_lines::answer_lines(rt, input, |words| answer(rt, words))
+    let mut earlier = vec![in rt.alloc(); 0; input_rooms::SCRIPT]?;
+    vector_lines::answer_lines(rt, input, |words| answer(rt, words, &mut earlier))
 }
