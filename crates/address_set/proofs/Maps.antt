@@ -102,9 +102,9 @@ zero_bit : (k x : ℕ) → x ≡ 0 → bit x k ≡ false
 zero_bit k x e = ap (λ (y : ℕ). eqb (y % 2) 1) (ap (λ (y : ℕ). y / 2 ^ k) e ∙ zero-div (2 ^ k))
 
 -- an address for which the map has no bit
-pub behind-end : (map : List ℕ) (a : ℕ) → length map ≤ a / 8 → marked map a ≡ false
+pub behind_end : (map : List ℕ) (a : ℕ) → length map ≤ a / 8 → marked map a ≡ false
 unfolding marked
-behind-end map a h = zero_bit (a % 8) _ (get_or-eq_default map 0 h)
+behind_end map a h = zero_bit (a % 8) _ (get_or-eq_default map 0 h)
 
 pub mark-none : (map : List ℕ) (a : ℕ) → length map ≤ a / 8 → Marked map map a
 mark-none map a h =

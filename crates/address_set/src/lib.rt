@@ -6,16 +6,12 @@ ghost use Rattle.std.specs.Prelude.{◌≡◌};
 ghost use Rattle.address_set.specs.Bits.{marked, Marked};
 
 // Whether the address is in the set.
+#[tactic(auto, using(crate::proofs::Maps::behind_end), unfolding(crate::specs::Bits::marked))]
 pub fn is_marked(map: &[u8], address: usize) -> bool
     ensures { result ≡ marked map.now address }
 {
-    let i = address / 8;
-    let bit = address % 8;
-    if map.len() <= i {
-        return false;
-    }
-    let byte = map[i];
-    (byte >> bit) % 2 == 1
+    map.get(address / 8)
+        .is_some_and(|byte| (byte >> (address % 8)) % 2 == 1)
 }
 
 // Adds the address to the set, and says whether it was in it.
@@ -24,13 +20,13 @@ pub fn mark(map: &mut [u8], address: usize) -> bool
 {
     let i = address / 8;
     let bit = address % 8;
-    if map.len() <= i {
+    let Some(&byte) = map.get(i) else {
         return false;
-    }
-    let byte = map[i];
+    };
     if (byte >> bit) % 2 == 1 {
         return true;
     }
-    map[i] = byte + (1u8 << bit);
+    // not by a `get_mut` above: it does not promise what the map is behind a None
+    map[i] = byte + (1 << bit);
     false
 }

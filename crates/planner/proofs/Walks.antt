@@ -4,12 +4,10 @@ use mathlib.Core.Path.{◌≡◌, refl, sym, ap, subst, ◌∙◌}
 use mathlib.Core.Bool.{Bool, true, false, cond}
 use mathlib.Core.List.{List, [], ◌∷◌, ◌++◌, append-nil, append_assoc}
 use Prim.Native.Nat.{ℕ, ◌+◌, ◌≤◌, ◌<◌}
-use native.Mathlib.Numerals.{add-one}
 use native.Mathlib.Omega.{arith}
 use borrow.Author.Tests.{leb-true, leb-false}
 use lib.Dec.{leb}
-use lib.ListN.{length, take, set, length-append}
-use lib.Seq.{length-take-le, take-suc-set}
+use lib.ListN.{length, length-append}
 use Rattle.firmware_text.specs.Image.{Image, segment, byte}
 use Rattle.firmware_text.specs.Order.{Rising, InOrder}
 use Rattle.firmware_text.specs.Segments.{bytes_ahead, segments_of}
@@ -67,21 +65,10 @@ reach-start text n old core e =
     }
 
 -- what `put` asks for: what is put so far is part of the whole, which is short
-module _ (text : List ℕ) (n : ℕ) (old : List ℕ) (i : Image) (core : List ℕ) (filled held : ℕ) (out : List ℕ) where
-  pub reach-allows : Reaches (packets_of (writes_of (segments_of (image_of text)))) n old i (take filled core) held out → length core ≡ 261
-      → filled ≤ 261
-      → length text ≤ 1048576 → n < 1000 → (length (take filled core) ≤ 261) × (held < 4294967296)
-  reach-allows r sized few short first = (
-    omega (arith, length-take-le filled core (omega arith)),
-    omega (arith, writes_short text, r.put.0, ap length r.left ∙ length-append r.done _),
-  )
-
--- a core with one byte more, in an array that was begun anew or not
-pub filled_more : (old new first : List ℕ) (filled r v : ℕ) → filled ≤ length old → r < length new
-    → take r new ≡ cond (leb 261 filled) first (take filled old)
-    → take (r + 1) (set new r v) ≡ cond (leb 261 (length (take filled old))) first (take filled old) ++ (v ∷ [])
-filled_more old new first filled r v fits inside e =
-    rw (length-take-le filled old fits, add-one r) (take-suc-set new r v inside ∙ ap (◌++ (v ∷ [])) e)
+pub reach-allows : (text : List ℕ) (n : ℕ) (old : List ℕ) (i : Image) (core : List ℕ) (held : ℕ) (out : List ℕ)
+    → Reaches (packets_of (writes_of (segments_of (image_of text)))) n old i core held out → length text ≤ 1048576 → n < 1000 → held < 4294967296
+reach-allows text n old i core held out r short first =
+    omega (arith, writes_short text, r.put.0, ap length r.left ∙ length-append r.done _)
 
 module _ (whole : List ℕ) (n : ℕ) (old : List ℕ) (core : List ℕ) (held : ℕ) (out : List ℕ) where
   module _ (next : ℕ) (new : List ℕ) (sized : length new ≡ length out) where

@@ -3,7 +3,7 @@
 // without room, which tells its length, then over the output, which is known to have the room.
 #![tactic(auto)]
 
-ghost use Rattle.std.specs.Prelude.{[], ◌≡◌, cond, ◌<◌, ◌≤◌, leb, length, take};
+ghost use Rattle.std.specs.Prelude.{List, [], ◌∷◌, ◌++◌, ℕ, ◌≡◌, cond, ◌<◌, ◌≤◌, leb, length, take};
 ghost use Rattle.firmware_text.specs.Machine.{image_of};
 ghost use Rattle.firmware_text.specs.Segments.{segments_of};
 ghost use Rattle.script.specs.Page.{addressed, writes_of, packets_of, page_script};
@@ -11,6 +11,7 @@ ghost use Rattle.planner.specs.Plan.{said, left, put_over, plan_of};
 ghost use Rattle.planner.specs.Walk.{PutIfRoom, packet_from, front};
 
 use refusal::{Refusal, Refused};
+use std::marker::Model;
 use text_cursor::{Cursor, Token};
 
 // The least length of a write's core: code, address and one byte.
@@ -28,7 +29,7 @@ fn opening(code: u8, address: u64) -> [u8; 5]
 }
 
 // The packet around a core of at least so many bytes, put behind the first n of a buffer that has the
-// room. The answer is how many the buffer has then.
+// room. The answer is how many the buffer has then: it goes on without room, as no rest of a slice could.
 fn put(core: &[u8], least: usize, n: usize, out: &mut [u8]) -> usize
     requires { (length core.now ≤ 261) × (0 < least) × (n < 4294967296) }
     ensures { PutIfRoom (packet_from least core.now) n out.old result out.new }
@@ -44,35 +45,70 @@ fn put(core: &[u8], least: usize, n: usize, out: &mut [u8]) -> usize
     end
 }
 
-// Begins the core of a write at an address. The answer is how many bytes it has.
-fn begin(address: u64, core: &mut [u8]) -> usize
-    requires { 5 ≤ length core.old }
-    ensures { (take result core.new ≡ addressed 0x20 address) × (result ≡ 5) }
-{
-    little_endian::store(&opening(0x20, address), 0, core);
-    5
+// The core of a write as far as it is filled: code and address, and the bytes of a block behind them.
+#[derive(Drop)]
+struct Block {
+    core: [u8; FULL],
+    filled: usize,
 }
 
-// Begins the core of a write anew at an address, if its block is full. The answer is how many bytes it has.
-fn begin_if_full(address: u64, filled: usize, core: &mut [u8]) -> usize
-    requires { (5 ≤ filled) × (filled ≤ 261) × (5 ≤ length core.old) }
-    ensures { (take result core.new ≡ cond (leb 261 filled) (addressed 0x20 address) (take filled core.old))
-        × (5 ≤ result) × (result < 261) }
-{
-    if filled < FULL {
-        return filled;
+impl Model for Block {
+    ghost Value = { List ℕ };
+
+    ghost view = { λ block. take block.filled block.core };
+
+    ghost invariant = { λ block. (5 ≤ block.filled) × (block.filled ≤ 261) };
+}
+
+impl Block {
+    // An empty block at the address 0.
+    fn new() -> Block
+        ensures { result ≡ addressed 0x20 0 }
+    {
+        let mut block = Block {
+            core: [0; FULL],
+            filled: 5,
+        };
+        block.begin(0);
+        block
     }
-    begin(address, core)
+
+    // Its code, address and bytes.
+    fn core(&self) -> &[u8]
+        ensures same { result.now ≡ self.now }
+        ensures few { length result.now ≤ 261 }
+    {
+        &self.core[..self.filled]
+    }
+
+    // Begins it anew, empty, at an address.
+    fn begin(&mut self, address: u64)
+        ensures { self.new ≡ addressed 0x20 address }
+    {
+        little_endian::store(&opening(0x20, address), 0, &mut self.core);
+        self.filled = 5;
+    }
+
+    // Puts a byte behind the others. A full block begins anew at the byte's address.
+    fn push(&mut self, address: u64, value: u8)
+        ensures { self.new ≡ cond (leb 261 (length self.old)) (addressed 0x20 address) self.old ++ (value ∷ []) }
+    {
+        if FULL <= self.filled {
+            self.begin(address);
+        }
+        self.core[self.filled] = value;
+        self.filled += 1;
+    }
 }
 
-// The write packets of a text's segments, put behind the first n bytes of a buffer.
+// The write packets of a text's segments, put behind the first n bytes of a buffer. The length of the text
+// is asked for here and in the two callers below; a struct of one text for its sake would be no plainer.
 fn put_writes(text: &[u8], n: usize, out: &mut [u8]) -> usize
     requires { (length text.now ≤ 1048576) × (n < 1000) }
     ensures { PutIfRoom (packets_of (writes_of (segments_of (image_of text.now)))) n out.old result out.new }
 {
-    let mut core = [0u8; 261];
     // no byte stands before the first segment
-    let mut filled = begin(0, &mut core);
+    let mut block = Block::new();
     let mut held = n;
     let mut cursor = Cursor::new();
     loop {
@@ -83,8 +119,8 @@ fn put_writes(text: &[u8], n: usize, out: &mut [u8]) -> usize
                     cursor: next,
                 },
             ) => {
-                held = put(&core[..filled], LEAST, held, out);
-                filled = begin(address, &mut core);
+                held = put(block.core(), LEAST, held, out);
+                block.begin(address);
                 cursor = next;
             }
             Ok(
@@ -95,21 +131,18 @@ fn put_writes(text: &[u8], n: usize, out: &mut [u8]) -> usize
                     ..
                 },
             ) => {
-                held = put(&core[..filled], FULL, held, out);
-                filled = begin_if_full(address, filled, &mut core);
-                core[filled] = value;
-                filled = filled + 1;
+                held = put(block.core(), FULL, held, out);
+                block.push(address, value);
                 cursor = next;
             }
-            Err(_) => return put(&core[..filled], LEAST, held, out),
-            Ok(Token::End) => return put(&core[..filled], LEAST, held, out),
+            Ok(Token::End) => return put(block.core(), LEAST, held, out),
+            Err(_) => return put(block.core(), LEAST, held, out),
         }
     }
 }
 
 // What every script begins with: head, password, erase.
-fn put_front(password: &[u8], out: &mut [u8]) -> usize
-    requires { length password.now ≡ 256 }
+fn put_front(password: &[u8; 256], out: &mut [u8]) -> usize
     ensures { PutIfRoom (front password.now) 0 out.old result out.new }
 {
     // the code, and the password behind it
@@ -121,8 +154,8 @@ fn put_front(password: &[u8], out: &mut [u8]) -> usize
 }
 
 // The page's own script of a text with no range checksum.
-fn put_script(text: &[u8], password: &[u8], entry: u32, out: &mut [u8]) -> usize
-    requires { (length text.now ≤ 1048576) × (length password.now ≡ 256) }
+fn put_script(text: &[u8], password: &[u8; 256], entry: u32, out: &mut [u8]) -> usize
+    requires { length text.now ≤ 1048576 }
     ensures { PutIfRoom (page_script (image_of text.now) password.now entry []) 0 out.old result out.new }
 {
     let erased = put_front(password, out);
@@ -131,8 +164,8 @@ fn put_script(text: &[u8], password: &[u8], entry: u32, out: &mut [u8]) -> usize
 }
 
 // The script of a sound text over the front of an output that has the room.
-fn write(text: &[u8], password: &[u8], entry: u32, out: &mut [u8]) -> Result<usize, Refused>
-    requires { (length text.now ≤ 1048576) × (length password.now ≡ 256) }
+fn write(text: &[u8], password: &[u8; 256], entry: u32, out: &mut [u8]) -> Result<usize, Refused>
+    requires { length text.now ≤ 1048576 }
     ensures { left (said result) out.new ≡ put_over (page_script (image_of text.now) password.now entry []) out.old }
 {
     // no room for a script, so nothing but its length comes of it
@@ -157,9 +190,9 @@ pub fn plan(
     if !region::size_good(size) {
         return Err(Refusal::RegionSize.into());
     }
-    if password.len() != 256 {
+    let Some(password) = password.as_array::<256>() else {
         return Err(Refusal::PasswordLength.into());
-    }
+    };
     if size <= entry as usize {
         return Err(Refusal::EntryOutside.into());
     }

@@ -3,27 +3,15 @@
 // the text is malformed. No cursor is refused by a `requires`: one that no text has finds a fault.
 #![tactic(auto)]
 
-ghost use Rattle.std.specs.Prelude.{◌≡◌, ℕ, ◌+◌, ◌^◌, ◌<◌, ◌≤◌, drop, length, get_or, IsTrue, ◌↔◌};
-ghost use Rattle.firmware_text.specs.Digit.{IsHex};
+ghost use Rattle.std.specs.Prelude.{◌≡◌, ℕ, ◌+◌, ◌^◌, ◌<◌, ◌≤◌, drop, length, get_or, Ok, IsTrue, ◌↔◌};
 ghost use Rattle.firmware_text.specs.Machine.{Line, sign, half, full, gap, quit, within};
 ghost use Rattle.text_cursor.specs.Walk.{from, near, line_state, stop_state, rest, beginning, Tells};
 ghost use Rattle.text_cursor.specs.Parts.{Numbered, end_from, DigitAt, behind, Beyond, ahead_image, Reached};
-ghost use Rattle.std.specs.Prelude.{IfSome};
-ghost use Rattle.firmware_text.specs.Digit.{digit, value_of};
 
-use firmware_text::digit_of as raw;
+use firmware_text::digit_of;
 
-// The value of a hex digit, none for any other byte: over 16 for none, since an Option handed on for each byte made the reader slower.
-fn digit_of(b: u8) -> Option<u8>
-    ensures value { value_of result ≡ digit b }
-    ensures small { IfSome result (λ value. value < 16) }
-{
-    let d = raw(b);
-    if 16 <= d {
-        return None;
-    }
-    Some(d)
-}
+// The most pairs of a line.
+const MOST: u64 = 16;
 
 // The pairs of a cursor at the start of a text, one more than a line can have.
 const START: u64 = 17;
@@ -58,10 +46,10 @@ pub enum Token {
     End,
 }
 
-// What stands behind a cursor: another pair of its line, or a line.
+// What stands behind a cursor: another pair of its line, by its place and first digit, or a line.
 #[derive(Clone, Copy)]
 enum Ahead {
-    Pair(usize),
+    Pair(usize, u8),
     Line(usize),
 }
 
@@ -76,21 +64,14 @@ struct Number {
 fn digit_at(text: &[u8], at: usize) -> Result<u8, usize>
     ensures { DigitAt text.now at result }
 {
-    if text.len() <= at {
-        return Err(at);
-    }
-    let d = raw(text[at]);
-    if 16 <= d {
-        return Err(at);
-    }
-    Ok(d)
+    text.get(at).and_then(|&b| digit_of(b)).ok_or(at)
 }
 
 // Whether the byte stands at a place.
 fn stands(text: &[u8], at: usize, b: u8) -> bool
     ensures { IsTrue result ↔ ((at < length text.now) × (get_or text.now at 0 ≡ b)) }
 {
-    at < text.len() && text[at] == b
+    text.get(at) == Some(&b)
 }
 
 // The place behind LF, or CR LF.
@@ -129,7 +110,7 @@ fn digits(text: &[u8], at: usize, first: u8) -> Number
     requires { (first < 16) × (at ≤ length text.now) }
     ensures { Numbered text.now at first result }
 {
-    let rest = &text[at..text.len().min(at + 7)];
+    let rest = &text[at..at + (text.len() - at).min(7)];
     let mut value = u64::from(first);
     for (i, &b) in rest.iter().enumerate() {
         let Some(digit) = digit_of(b) else {
@@ -202,14 +183,13 @@ fn line_start(text: &[u8], at: usize, pairs: u64, address: u64) -> Result<Token,
 }
 
 // Another pair of a line, of which no line has a 17th.
-fn another(text: &[u8], at: usize, pairs: u64, address: u64) -> Result<Token, usize>
-    requires { (address ≤ 2 ^ 32 + at) × (at < length text.now) × IsHex (get_or text.now at 0) }
+fn another(text: &[u8], at: usize, pairs: u64, address: u64, high: u8) -> Result<Token, usize>
+    requires { (address ≤ 2 ^ 32 + at) × DigitAt text.now at (Ok high) }
     ensures { Tells text.now at (from (gap pairs address) at text.now) result }
 {
-    if 16 <= pairs {
+    if MOST <= pairs {
         return Err(at);
     }
-    let high = digit_at(text, at)?;
     pair(text, at, pairs + 1, address, high)
 }
 
@@ -230,7 +210,7 @@ fn behind_pair(text: &[u8], at: usize) -> Result<Ahead, usize>
     }
     let next = at + 1;
     match digit_at(text, next) {
-        Ok(_) => Ok(Ahead::Pair(next)),
+        Ok(high) => Ok(Ahead::Pair(next, high)),
         Err(_) => line_ahead(text, next),
     }
 }
@@ -264,7 +244,8 @@ impl Cursor {
         }
     }
 
-    // The next token from the cursor on.
+    // The next token from the cursor on. It is built into each walk, so that no token is copied there.
+    #[inline(always)]
     pub fn next(self, text: &[u8]) -> Result<Token, usize>
         ensures { Tells text.now self.at (rest text.now self) result }
     {
@@ -273,7 +254,7 @@ impl Cursor {
             return Err(at);
         }
         match look_ahead(text, at, pairs)? {
-            Ahead::Pair(place) => another(text, place, pairs, address),
+            Ahead::Pair(place, high) => another(text, place, pairs, address, high),
             Ahead::Line(place) => line_start(text, place, pairs, address),
         }
     }

@@ -3,6 +3,7 @@
 use mathlib.Core.Path.{◌≡◌, refl, sym, ap, subst, ◌∙◌}
 use borrow.Author.Tests.{eq-eqb, ne_eqb, le-leb, lt-leb}
 use Prim.Native.Nat.{ℕ}
+use lib.ListN.{length}
 use Rattle.std.proofs.Common.{Result, Err}
 use Rattle.std.proofs.lemmas.Result.{err_from_is_err_and}
 use Rattle.refusal.specs.declared.Refused.{Refused}
@@ -15,10 +16,10 @@ pub returns-then-not-size_good : goal.returns-then-not-size_good
 unfolding plan_of
 returns-then-not-size_good c = rw (c.into.ensures, ← c.if-not-size_good.ensures) refl
 
-pub returns-then-password-ne256 : goal.returns-then-password-ne256
+pub returns-in_default : goal.returns-in_default
 unfolding plan_of
-returns-then-password-ne256 c =
-    rw (c.into-then-password-ne256.ensures, ← c.if-not-size_good.ensures, ne_eqb _ _ c.if-password-ne256.true) refl
+returns-in_default c =
+    rw (c.into-in_default.ensures, ← c.if-not-size_good.ensures, ne_eqb (length c.args.password.now) 256 c.in_default.ensures.cases) refl
 
 pub returns-then-size-entry : goal.returns-then-size-entry
 unfolding plan_of
@@ -26,24 +27,24 @@ returns-then-size-entry c =
     rw (
       c.into-then-size-entry.ensures,
       ← c.if-not-size_good.ensures,
-      eq-eqb _ _ c.if-password-ne256.false,
+      eq-eqb _ 256 c.in-Some.ensures.cases.long,
       le-leb _ _ c.if-size-entry.true,
     )
     refl
 
 pub write-requires : goal.write-requires
-write-requires c = (sound-short _ _ (sym c.in_ok-judge.ensures), c.if-password-ne256.false)
+write-requires c = sound-short _ _ (sym c.in_ok-judge.ensures)
 
 pub returns : goal.returns
 unfolding plan_of
 returns c =
     rw (
       ← c.if-not-size_good.ensures,
-      eq-eqb _ _ c.if-password-ne256.false,
+      eq-eqb _ 256 c.in-Some.ensures.cases.long,
       lt-leb _ _ c.if-size-entry.false,
       ← c.in_ok-judge.ensures,
     )
-    c.write.ensures
+    (rw c.in-Some.ensures.cases.same at c.write.ensures)
 
 pub returns-in_err-judge : goal.returns-in_err-judge
 unfolding plan_of
@@ -55,7 +56,7 @@ returns-in_err-judge c =
     subst (λ (r : Result ℕ Refused). left (said r) out ≡ plan_of args.text.now args.password.now args.entry args.size out) (sym why.1)
     (rw (
       ← c.if-not-size_good.ensures,
-      eq-eqb _ _ c.if-password-ne256.false,
+      eq-eqb _ 256 c.in-Some.ensures.cases.long,
       lt-leb _ _ c.if-size-entry.false,
       ← refused,
     )

@@ -15,7 +15,7 @@ use Rattle.planner.proofs.put_script.Goals as goal
 
 pub put_writes-written-requires : goal.put_writes-written-requires
 put_writes-written-requires c =
-    (omega arith, omega (arith, c.put_front-erased.ensures.0, front_length c.args.password.now c.requires.1))
+    (omega arith, omega (arith, c.put_front-erased.ensures.0, front_length c.args.password.now (omega arith)))
 
 pub put-requires : goal.put-requires
 put-requires c =
@@ -24,9 +24,9 @@ put-requires c =
       omega arith,
       omega (
         arith,
-        c.requires.0,
+        c.requires,
         c.put_front-erased.ensures.0,
-        front_length c.args.password.now c.requires.1,
+        front_length c.args.password.now (omega arith),
         c.put_writes-written.ensures.0,
         writes_short text,
       ),

@@ -1,9 +1,8 @@
 -- `planner::put_writes` meets its contract: what is left to walk, from the block that is begun on, gives the rest of the packets.
 -- Assumes nothing.
-use mathlib.Core.Path.{◌≡◌}
 use mathlib.Core.List.{List}
-use Prim.Native.Nat.{ℕ, ◌-◌, ◌≤◌}
-use lib.ListN.{length, take}
+use Prim.Native.Nat.{ℕ, ◌-◌}
+use lib.ListN.{length}
 use Rattle.firmware_text.specs.Machine.{image_of}
 use Rattle.firmware_text.specs.Segments.{segments_of}
 use Rattle.text_cursor.specs.Walk.{rest}
@@ -16,8 +15,7 @@ abbrev pub whole : List ℕ → List ℕ
 whole text = packets_of (writes_of (segments_of (image_of text)))
 
 abbrev pub invariant-loop-address : goal.invariant-loop-address
-invariant-loop-address l = (length l.core ≡ 261) × (5 ≤ l.filled) × (l.filled ≤ 261)
-    × Reaches (whole l.text) l.n l.initial.out (rest l.text l.cursor) (take l.filled l.core) l.held l.out
+invariant-loop-address l = Reaches (whole l.text) l.n l.initial.out (rest l.text l.cursor) l.block l.held l.out
 
 abbrev pub decreases-loop-address : goal.decreases-loop-address
 decreases-loop-address l = length l.text - l.cursor.at

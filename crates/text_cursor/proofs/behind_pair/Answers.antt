@@ -7,7 +7,7 @@ use native.Mathlib.Omega.{arith}
 use borrow.Author.Tests.{le-ltb}
 use Rattle.firmware_text.specs.Machine.{full, gap, within, on, step}
 use Rattle.firmware_text.proofs.Steps.{step_other, full-space, full-ends}
-use Rattle.text_cursor.proofs.Walks.{from_step, end-from, reached-on, is-hex}
+use Rattle.text_cursor.proofs.Walks.{from_step, end-from, reached-on}
 use Rattle.text_cursor.proofs.behind_pair.Goals as goal
 
 pub returns-then-not-stands : goal.returns-then-not-stands
@@ -27,7 +27,7 @@ returns-in-Ok c =
     let space = c.if-not-stands.ensures.0 refl in
     let d = c.in-Ok.ensures in (
       λ k a h. sym (from_step text at (full k a) (on (gap k a)) space.0 (ap (step (full k a) at) space.1 ∙ full-space k a at)),
-      (omega arith, d.0, is-hex _ _ d.1 d.2),
+      (omega arith, d),
     )
 
 pub returns-in-Err : goal.returns-in-Err

@@ -25,7 +25,7 @@ loop-i-init c =
 pub returns-in_default : goal.returns-in_default
 returns-in_default c =
     let l = c.loop-i in
-    let b = byte-up_to c.args.text.now c.args.at c.min.result l.i (omega (arith, c.requires.1, c.min.ensures)) c.loop-i-test.true in
+    let b = byte-up_to c.args.text.now c.args.at (c.args.at + c.min.result) l.i (omega arith) c.loop-i-test.true in
     record {
       count = l.i + 1;
       reads = l.invariant.1;
@@ -37,13 +37,13 @@ returns-in_default c =
 pub overflow_mul-value : goal.overflow_mul-value
 overflow_mul-value c =
     let l = c.loop-i in
-    let b = byte-up_to c.args.text.now c.args.at c.min.result l.i (omega (arith, c.requires.1, c.min.ensures)) c.loop-i-test.true in
+    let b = byte-up_to c.args.text.now c.args.at (c.args.at + c.min.result) l.i (omega arith) c.loop-i-test.true in
     omega (arith, value-small (l.i + 1) l.value (omega (arith, b.1, c.min.ensures)) l.invariant.0)
 
 pub overflow_add-value : goal.overflow_add-value
 overflow_add-value c =
     let l = c.loop-i in
-    let b = byte-up_to c.args.text.now c.args.at c.min.result l.i (omega (arith, c.requires.1, c.min.ensures)) c.loop-i-test.true in
+    let b = byte-up_to c.args.text.now c.args.at (c.args.at + c.min.result) l.i (omega arith) c.loop-i-test.true in
     omega (arith, value-small (l.i + 1) l.value (omega (arith, b.1, c.min.ensures)) l.invariant.0, c.from.ensures, c.in-Some.ensures.small)
 
 pub loop-i-preserved : goal.loop-i-preserved
@@ -52,7 +52,7 @@ loop-i-preserved c =
     let at = c.args.at in
     let l = c.loop-i in
     let v = l.value in
-    let b = byte-up_to text at c.min.result l.i (omega (arith, c.requires.1, c.min.ensures)) c.loop-i-test.true in
+    let b = byte-up_to text at (at + c.min.result) l.i (omega arith) c.loop-i-test.true in
     let d = c.in-Some.ensures in
     let is = d.value ∙ ap digit b.0 in
     let hex = is-hex (get_or text (at + l.i) 0) _ is d.small in
@@ -69,9 +69,9 @@ returns c =
     let text = c.args.text.now in
     let at = c.args.at in
     let l = c.loop-i in
-    let rest = take (c.min.result - at) (drop at text) in
+    let rest = take (at + c.min.result - at) (drop at text) in
     let all : l.i ≡ length rest = omega (arith, c.loop-i.auto.i-end, c.loop-i-test.false) in
-    let short = length-take (c.min.result - at) (drop at text) in
+    let short = length-take (at + c.min.result - at) (drop at text) in
     let behind = length-drop at text in
     record {
       count = l.i + 1;
