@@ -16,7 +16,7 @@ pub enum Command {
 
 // An option by its name, without its value.
 #[derive(Clone, Copy, PartialEq, Eq)]
-pub enum Flag {
+pub(crate) enum Flag {
     Password,
     Entry,
     Size,
@@ -30,7 +30,7 @@ pub enum Flag {
 
 impl Command {
     // The command that a word names.
-    pub fn of(word: &[u8]) -> Option<Command> {
+    pub(crate) fn of(word: &[u8]) -> Option<Command> {
         match word {
             b"plan" => Some(Command::Plan),
             b"check" => Some(Command::Check),
@@ -47,7 +47,7 @@ impl Command {
     }
 
     // Whether the command takes an option.
-    pub fn takes(self, flag: Flag) -> bool {
+    pub(crate) fn takes(self, flag: Flag) -> bool {
         match flag {
             Flag::Help | Flag::End => true,
             Flag::Password => matches!(self, Command::Plan | Command::Check | Command::Cuts),
@@ -63,7 +63,7 @@ impl Command {
     }
 
     // How many files the command wants.
-    pub fn wanted(self) -> usize {
+    pub(crate) fn wanted(self) -> usize {
         match self {
             Command::Plan | Command::Check | Command::Cuts | Command::Picture => 2,
             Command::Show | Command::Image | Command::Sums | Command::Record => 1,
@@ -72,14 +72,14 @@ impl Command {
     }
 
     // Whether nothing after the command matters.
-    pub fn is_alone(self) -> bool {
+    pub(crate) fn is_alone(self) -> bool {
         matches!(self, Command::Help | Command::Version)
     }
 }
 
 impl Flag {
     // The option that a word names.
-    pub fn of(word: &[u8]) -> Option<Flag> {
+    pub(crate) fn of(word: &[u8]) -> Option<Flag> {
         match word {
             b"--password" => Some(Flag::Password),
             b"--entry" => Some(Flag::Entry),

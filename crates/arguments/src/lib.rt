@@ -2,6 +2,8 @@
 // argument or follow an equals sign. What is wrong with them is said in a line on standard error.
 #![tactic(auto)]
 
+ghost use Rattle.std.specs.Prelude.{◌≡◌, ◌-◌, ◌<◌, ◌≤◌, [], length, IfNone, IfSome, IsNone};
+
 mod commands;
 mod numbers;
 mod reading;
@@ -78,7 +80,10 @@ fn word(rt: &impl Env, argument: usize) -> Option<Word> {
 }
 
 // The word of a name, empty where there is none.
-pub fn word_of(rt: &impl Env, name: Option<Name>) -> Word {
+pub fn word_of(rt: &impl Env, name: Option<Name>) -> Word
+    ensures none { IfNone name (result.items ≡ []) }
+    ensures behind { IfSome name (λ at. length result.items ≤ 4096 - at.from) }
+{
     let Some(Name { argument, from }) = name else {
         return Word::new();
     };
@@ -88,7 +93,10 @@ pub fn word_of(rt: &impl Env, name: Option<Name>) -> Word {
 
 // The path of a link to the file of a name, which the launcher lends where the name, or one to which it leads, is not UTF-8,
 // as a path has to be.
-pub fn link_of(rt: &impl Env, name: Option<Name>) -> Option<Word> {
+pub fn link_of(rt: &impl Env, name: Option<Name>) -> Option<Word>
+    ensures none { IfNone name (IsNone result) }
+    ensures some { IfSome result (λ link. (0 < length link.items) × (length link.items ≤ 4096)) }
+{
     let Name { argument, from } = name?;
     let variable = Line::new()
         .text("CARDTOOL_LINK_")

@@ -20,11 +20,11 @@ fn number_of(digits: &[u8], radix: u32) -> Option<u32>
 }
 
 // The number of a word in hexadecimal digits.
-pub fn hex(word: &[u8]) -> Option<u32> {
+pub(crate) fn hex(word: &[u8]) -> Option<u32> {
     number_of(word.strip_prefix(b"0x").unwrap_or(word), 16)
 }
 
 // The number of a word in decimal digits.
-pub fn decimal(word: &[u8]) -> Option<u32> {
+pub(crate) fn decimal(word: &[u8]) -> Option<u32> {
     number_of(word, 10)
 }

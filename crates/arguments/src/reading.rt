@@ -7,31 +7,31 @@ use std::cmp::Ordering;
 
 // What is wrong with the usage, and at which word.
 #[derive(Clone, Copy)]
-pub struct Misuse<'a> {
+pub(crate) struct Misuse<'a> {
     why: &'static str,
     word: &'a [u8],
 }
 
 // The arguments as far as they are taken.
 #[derive(Clone, Copy)]
-pub struct Reading {
-    pub options: Options,
+pub(crate) struct Reading {
+    pub(crate) options: Options,
     // How many files are named.
     files: usize,
     // The option whose value comes next.
     wanting: Option<Flag>,
     // Whether what follows are files, whatever they begin with.
     ended: bool,
-    pub help: bool,
+    pub(crate) help: bool,
 }
 
 impl<'a> Misuse<'a> {
-    pub fn new(why: &'static str, word: &'a [u8]) -> Misuse<'a> {
+    pub(crate) fn new(why: &'static str, word: &'a [u8]) -> Misuse<'a> {
         Misuse { why, word }
     }
 
     // Says what is wrong.
-    pub fn complain(self, rt: &impl System) {
+    pub(crate) fn complain(self, rt: &impl System) {
         Line::new()
             .text("cardtool: ")
             .text(self.why)
@@ -42,7 +42,7 @@ impl<'a> Misuse<'a> {
 
 impl Reading {
     // No argument taken.
-    pub fn new() -> Reading {
+    pub(crate) fn new() -> Reading {
         Reading {
             options: Options::usual(),
             files: 0,
@@ -53,7 +53,7 @@ impl Reading {
     }
 
     // Takes one argument more, or says what is wrong with it.
-    pub fn take<'a>(
+    pub(crate) fn take<'a>(
         &mut self,
         command: Command,
         word: &'a [u8],
@@ -137,7 +137,7 @@ impl Reading {
     }
 
     // Judges the arguments when all are taken.
-    pub fn judge(&self, command: Command) -> Result<(), Misuse<'static>> {
+    pub(crate) fn judge(&self, command: Command) -> Result<(), Misuse<'static>> {
         if self.wanting.is_some() {
             return Err(Misuse::new("the last option wants a value", b""));
         }

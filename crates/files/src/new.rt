@@ -147,14 +147,18 @@ fn take_place(
 }
 
 // The place of the file at a path, or where its link leads, if what stands at the path may be replaced.
-pub fn place_of(rt: &(impl Env + Files + Alloc), path: &[u8], rule: Rule) -> Result<Word, Reason> {
+pub(crate) fn place_of(
+    rt: &(impl Env + Files + Alloc),
+    path: &[u8],
+    rule: Rule,
+) -> Result<Word, Reason> {
     judge(rt, path, rule)?;
     let place = resolved(rt, path)?.ok_or_else(too_long)?;
     Ok(place)
 }
 
 // Puts bytes into the file at a place that is no link, whole or not at all. The place is looked at by its own name.
-pub fn put_at_place(
+pub(crate) fn put_at_place(
     rt: &(impl System + Env + Files + RandomSource),
     place: &[u8],
     bytes: &[u8],
@@ -167,13 +171,13 @@ pub fn put_at_place(
 }
 
 // Whether a path and all to which it leads by links are UTF-8, so that a file can be put there by its own name.
-pub fn leads_in_text(rt: &(impl Files + Alloc), path: &[u8]) -> bool {
+pub(crate) fn leads_in_text(rt: &(impl Files + Alloc), path: &[u8]) -> bool {
     resolved(rt, path).is_ok()
 }
 
 // Puts bytes into a new file beside a link which is lent, if the file to which it leads may be replaced. The launcher then
 // gives it that file's name.
-pub fn put_beside(
+pub(crate) fn put_beside(
     rt: &(impl Env + Files),
     link: &[u8],
     bytes: &[u8],

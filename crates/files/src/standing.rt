@@ -9,7 +9,7 @@ use tool_paths::{File, Standing};
 
 // Why no file is written.
 #[derive(Debug, Drop, Error)]
-pub enum Reason {
+pub(crate) enum Reason {
     #[error("the file stands already; --force replaces it")]
     Stands,
     #[error("the file stands already and is no script; --force replaces it")]
@@ -55,7 +55,7 @@ fn judge_regular(
 }
 
 // Whether a file may be written at a path, or why not.
-pub fn judge(rt: &(impl Env + Files), path: &[u8], rule: Rule) -> Result<(), Reason> {
+pub(crate) fn judge(rt: &(impl Env + Files), path: &[u8], rule: Rule) -> Result<(), Reason> {
     match tool_paths::look_at(rt, path)? {
         Standing::Missing => Ok(()),
         Standing::Regular(file) => judge_regular(rt, path, file, rule),

@@ -1,12 +1,16 @@
 // Lines of a report: a line goes in by value and comes back with words or numbers behind what it had, and
 // is printed whole. What a line has no room for is left out. None of these functions asks anything of its
 // input. One `println!` would not do: columns are counted from what a line holds, and a name from outside need not be text.
+// Of printing, and of what std's formats write, safety alone is promised.
 #![tactic(auto)]
 
-ghost use Rattle.std.specs.Prelude.{length};
-ghost use Rattle.std.specs.Iterator.{at_most};
+ghost use Rattle.std.specs.Prelude.{◌≡◌, [], ◌∷◌};
+ghost use Rattle.std.specs.Iterator.{YieldsFirst, item_count};
+ghost use Rattle.report.specs.Lines.{lengthened, cleaned, printable, checksum_text};
+ghost use Rattle.report.specs.Shown.{holds, left};
 
 use arrayvec::ArrayVec;
+use byte_parts::front;
 use std::fmt::{Display, Write};
 use std::rt::HostRuntime;
 use std::{fmt, io, process, str};
@@ -40,6 +44,8 @@ impl System for HostRuntime {
 
 // A line takes what is written to it, as far as it has room.
 impl fmt::Write for Line {
+    ghost write_str_gives = { λ old words new. holds new ≡ lengthened (holds old) words };
+
     fn write_str(&mut self, words: &str) -> fmt::Result {
         self.put(words.as_bytes());
         Ok(())
@@ -48,16 +54,20 @@ impl fmt::Write for Line {
 
 impl Line {
     // An empty line.
-    pub fn new() -> Line {
+    pub fn new() -> Line
+        ensures { holds result ≡ [] }
+    {
         Line {
             held: ArrayVec::new(),
         }
     }
 
     // Puts bytes behind what the line has.
-    fn put(&mut self, bytes: &[u8]) {
-        let fitting = bytes.len().min(self.held.remaining_capacity());
-        let _ = self.held.try_extend_from_slice(&bytes[..fitting]);
+    fn put(&mut self, bytes: &[u8])
+        ensures { holds self.new ≡ lengthened (holds self.old) bytes.now }
+    {
+        let room = self.held.remaining_capacity();
+        let _ = self.held.try_extend_from_slice(front(bytes, room));
     }
 
     // The line with a value behind it, as it is shown.
@@ -67,18 +77,24 @@ impl Line {
     }
 
     // The line with bytes behind it.
-    fn bytes(mut self, bytes: &[u8]) -> Line {
+    fn bytes(mut self, bytes: &[u8]) -> Line
+        ensures { holds result ≡ lengthened (holds self) bytes.now }
+    {
         self.put(bytes);
         self
     }
 
     // The line with one byte more.
-    pub fn byte(self, b: u8) -> Line {
+    pub fn byte(self, b: u8) -> Line
+        ensures { holds result ≡ lengthened (holds self) (b ∷ []) }
+    {
         self.bytes(&[b])
     }
 
     // The line with words behind it.
-    pub fn text(self, words: &str) -> Line {
+    pub fn text(self, words: &str) -> Line
+        ensures { holds result ≡ lengthened (holds self) words.now }
+    {
         self.bytes(words.as_bytes())
     }
 
@@ -138,9 +154,13 @@ impl Line {
         self.shown(format_args!("{byte:02x}"))
     }
 
-    // The line with a checksum behind it.
-    pub fn checksum(self, sum: u16) -> Line {
-        self.shown(format_args!("{sum:#06x}"))
+    // The line with a checksum behind it. No format, since std leaves open what one writes that fails.
+    pub fn checksum(self, sum: u16) -> Line
+        ensures { holds result ≡ lengthened (holds self) (checksum_text sum) }
+    {
+        let mut words = *b"0x0000";
+        let _ = hex::encode_to_slice(sum.to_be_bytes(), &mut words[2..]);
+        self.bytes(&words)
     }
 
     // The line with the reason of a failed call behind it, in the system's words without its number.
@@ -150,7 +170,9 @@ impl Line {
     }
 
     // What the line holds.
-    pub fn words(&self) -> &[u8] {
+    pub fn words(&self) -> &[u8]
+        ensures { result.now ≡ holds self.now }
+    {
         self.held.as_slice()
     }
 
@@ -186,7 +208,9 @@ pub struct Printable<'a> {
 }
 
 impl<'a> Printable<'a> {
-    pub fn of(name: &'a [u8]) -> Printable<'a> {
+    pub fn of(name: &'a [u8]) -> Printable<'a>
+        ensures { left result ≡ printable 0 name.now }
+    {
         Printable {
             before: 0,
             rest: name,
@@ -197,7 +221,9 @@ impl<'a> Printable<'a> {
 impl<'a> Iterator for Printable<'a> {
     type Item = u8;
 
-    ghost remaining = { λ p. at_most (length p.rest.now) };
+    ghost next_gives = { YieldsFirst left };
+
+    ghost remaining = { item_count left };
 
     fn next(&mut self) -> Option<u8> {
         let (&b, rest) = self.rest.split_first()?;
@@ -211,7 +237,9 @@ impl<'a> Iterator for Printable<'a> {
 
 // A byte of a name by its neighbours, a question mark for a control character. In UTF-8 those above 0x7f are 0xc2 and a
 // byte from 0x80 to 0x9f, which behind other bytes is a later one of a letter.
-fn cleaned(before: u8, b: u8, after: u8) -> u8 {
+fn cleaned(before: u8, b: u8, after: u8) -> u8
+    ensures { result ≡ cleaned before b after }
+{
     match b {
         0x00..=0x1F | 0x7F => b'?',
         0x80..=0x9F if matches!(before, 0x00..=0x7F | 0xC2) => b'?',

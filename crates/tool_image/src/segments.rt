@@ -5,7 +5,7 @@ use text_cursor::{Cursor, Token};
 
 // A segment: its number, from 1, its address, and how many bytes it has.
 #[derive(Clone, Copy)]
-pub struct Segment {
+pub(crate) struct Segment {
     pub number: usize,
     pub address: usize,
     pub count: usize,
@@ -27,14 +27,14 @@ struct Ending {
 
 // The segments of a text. Each takes at least one byte of it, so there are no more than that.
 #[derive(Drop)]
-pub struct Segments<'a> {
+pub(crate) struct Segments<'a> {
     text: &'a [u8],
     number: usize,
     next: Option<Opening>,
 }
 
 impl<'a> Segments<'a> {
-    pub fn of(text: &'a [u8]) -> Segments<'a> {
+    pub(crate) fn of(text: &'a [u8]) -> Segments<'a> {
         Segments {
             text,
             number: 0,

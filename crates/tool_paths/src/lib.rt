@@ -2,6 +2,10 @@
 // is a slice of at most 4,095 bytes, and text in UTF-8. None of these functions asks anything of its input.
 #![tactic(auto)]
 
+ghost use Rattle.std.specs.Prelude.{◌≡◌, None};
+ghost use Rattle.std.specs.IoError.{error_kind, raw_os_error};
+ghost use Rattle.std.specs.declared.io.ErrorKind.TheVariants.{InvalidFilename};
+
 use arrayvec::ArrayVec;
 use std::io::{Error, ErrorKind};
 use std::os::unix::fs::MetadataExt;
@@ -31,7 +35,10 @@ pub enum Standing {
 }
 
 // That a path has more bytes than a word or the system takes.
-pub fn too_long() -> Error {
+pub fn too_long() -> Error
+    ensures kind { error_kind result ≡ InvalidFilename }
+    ensures own { raw_os_error result ≡ None }
+{
     Error::new(ErrorKind::InvalidFilename, "the name is too long")
 }
 
