@@ -35,7 +35,8 @@ abbrev pub call_no : Lent → ℕ → Card → List ℕ → List ℕ → Call
 call_no lent i card region packet =
     record { met = card.loader.mode; gave = call_of card lent.size region lent.password packet (lent.buffer i) }
 
--- the list of calls that sends packets in order, from the i-th on: each gets the state and the region that the one before returned or left, and nothing comes between
+-- the list of calls that sends packets in order, from the i-th on: each gets the state and the region that the one before returned
+-- or left, and nothing comes between
 abbrev pub calls_of : Lent → ℕ → Card → List ℕ → List (List ℕ) → List Call
 calls_of lent i card region [] = []
 calls_of lent i card region (packet ∷ packets) =
@@ -68,7 +69,8 @@ pub record Delivers (picture region : List ℕ) (calls : List Call) : Type 0 whe
   pub last_starts : OnlyLastStarts calls
   pub holds : region_after region calls ≡ picture
 
--- a card whose loader was freshly entered: locked, with the expected checksum, and a region of n bytes; the bytes and the rest of the state are arbitrary
+-- a card whose loader was freshly entered: locked, with the expected checksum, and a region of n bytes; the bytes and the rest of
+-- the state are arbitrary
 pub record Entered (n expected : ℕ) (card : Card) (region : List ℕ) : Type 0 where
   pub is_locked : card.loader.mode ≡ Locked
   pub expects : card.loader.expected ≡ expected

@@ -1,7 +1,8 @@
 // The commands of packets without fault. Region, password and core are handed down one by one: a struct around them would be
 // made for one call and taken apart in each contract.
 ghost use Rattle.std.specs.Prelude.{◌≡◌, not, ◌&&◌, List, ℕ};
-ghost use Rattle.loader.specs.Loader.{outcome, is_unlocked, wants_unlocked, password_of, write_done, range_done, start_of, done_of, obeyed_of};
+ghost use Rattle.loader.specs.Loader.{outcome, is_unlocked, wants_unlocked, password_of, write_done, range_done, start_of};
+ghost use Rattle.loader.specs.Loader.{done_of, obeyed_of};
 ghost use Rattle.loader.specs.declared.Reply.TheVariants.{Message};
 
 use crate::{Loader, Mode, Received, Reply};

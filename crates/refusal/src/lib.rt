@@ -43,7 +43,8 @@ pub enum Refusal {
     CutBeyondWork,
 }
 
-// A refusal, and the place at which it is given: 0 where no place is named.
+// A refusal, and the place at which it is given: 0 where none is named, as the answers have it that the papers define; an
+// Option would be undone by each of them.
 #[derive(Clone, Copy, PartialEq, Eq, Debug)]
 pub struct Refused {
     pub refusal: Refusal,

@@ -46,7 +46,8 @@ impl Room {
 
     // Puts bytes behind the others if there is room for all of them.
     pub fn put_whole(&mut self, bytes: &[u8]) -> Result<(), AllocError>
-        ensures fits { length bytes.now ≤ self.old.size - vec_len self.old.bytes → OnOk result (self.new.bytes.items ≡ self.old.bytes.items ++ bytes.now) }
+        ensures fits { length bytes.now ≤ self.old.size - vec_len self.old.bytes
+            → OnOk result (self.new.bytes.items ≡ self.old.bytes.items ++ bytes.now) }
         ensures too_long { self.old.size - vec_len self.old.bytes < length bytes.now → self.new.bytes.items ≡ self.old.bytes.items }
         ensures err { OnErr result (self.new.bytes.items ≡ self.old.bytes.items) }
         ensures size { self.new.size ≡ self.old.size }
