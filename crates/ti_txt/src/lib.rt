@@ -45,12 +45,7 @@ fn holds(buffer: &[u8], address: u64, value: u8) -> bool
 fn blank_elsewhere(buffer: &[u8], map: &[u8]) -> bool
     ensures { BlankElsewhere buffer.now map.now result }
 {
-    for (address, &value) in buffer.iter().enumerate() {
-        if value != 0xFF && !address_set::is_marked(map, address) {
-            return false;
-        }
-    }
-    true
+    buffer.iter().enumerate().all(|(at, &value)| value == 0xFF || address_set::is_marked(map, at))
 }
 
 // Whether the image of the text keeps its rules and the buffer is its picture.
@@ -91,11 +86,5 @@ fn agrees(text: &[u8], buffer: &[u8]) -> bool
 pub fn is_picture(text: &[u8], buffer: &[u8]) -> bool
     ensures { result ≡ is_picture_of text.now buffer.now }
 {
-    if !region::size_good(buffer.len()) {
-        return false;
-    }
-    if text_image::LONGEST < text.len() {
-        return false;
-    }
-    agrees(text, buffer)
+    region::size_good(buffer.len()) && text.len() <= text_image::LONGEST && agrees(text, buffer)
 }
