@@ -1,6 +1,10 @@
 // The packets of a script, in words.
-ghost use Rattle.std.specs.Prelude.{◌-◌, ◌<◌, ◌≤◌, length, IfSome};
-ghost use Rattle.std.specs.Iterator.{at_most};
+ghost use Rattle.std.specs.Prelude.{◌≡◌, ◌+◌, ◌-◌, ◌<◌, ◌≤◌, length, IfSome};
+ghost use Rattle.std.specs.Iterator.{YieldsFirstBy, item_count};
+ghost use Rattle.std.specs.Option.{option_copied};
+ghost use Rattle.little_endian.specs.Bytes.{joined};
+ghost use Rattle.tool_words.specs.Packets.{packets_of, packet_of, most, listed};
+ghost use Rattle.tool_words.specs.Shown.{listed_as, left};
 
 use byte_parts::{behind, front};
 use packet::Command;
@@ -34,7 +38,9 @@ pub struct Packets<'a> {
 }
 
 impl<'a> Packets<'a> {
-    pub fn of(script: &'a [u8]) -> Packets<'a> {
+    pub fn of(script: &'a [u8]) -> Packets<'a>
+        ensures { left result ≡ listed 0 5 (packets_of script.now) }
+    {
         Packets {
             script,
             number: 0,
@@ -46,8 +52,9 @@ impl<'a> Packets<'a> {
 impl<'a> Iterator for Packets<'a> {
     type Item = Packet<'a>;
 
-    // Each packet takes at least one byte of the script.
-    ghost remaining = { λ p. at_most (length p.script.now - p.at) };
+    ghost next_gives = { YieldsFirstBy listed_as left };
+
+    ghost remaining = { item_count left };
 
     fn next(&mut self) -> Option<Packet<'a>> {
         let bytes = packet_at(self.script, self.at)?;
@@ -64,7 +71,9 @@ impl<'a> Iterator for Packets<'a> {
 
 impl<'a> Packet<'a> {
     // The offset behind the packet.
-    fn end(self) -> usize {
+    fn end(self) -> usize
+        ensures { result ≡ most (self.entry.at + length self.entry.bytes.now) }
+    {
         self.at.saturating_add(self.bytes.len())
     }
 }
@@ -72,19 +81,24 @@ impl<'a> Packet<'a> {
 // The packet that a script has at an offset, if it holds that whole.
 #[tactic(auto, unfolding(script::specs::Script::front_of))]
 pub fn packet_at(script: &[u8], at: usize) -> Option<&[u8]>
-    ensures { IfSome result (λ packet. (0 < length packet.now) × (length packet.now ≤ length script.now - at)) }
+    ensures packet { option_copied result ≡ packet_of at script.now }
+    ensures within { IfSome result (λ packet. (0 < length packet.now) × (length packet.now ≤ length script.now - at)) }
 {
     let rest = behind(script, at);
     Some(front(rest, script::front(rest)?))
 }
 
 // How many packets a script has.
-pub fn count(script: &[u8]) -> usize {
+pub fn count(script: &[u8]) -> usize
+    ensures { result ≡ length (packets_of script.now) }
+{
     Packets::of(script).count()
 }
 
 // The offset where the framing of a script ends: the script's end, or the start of a packet that is cut.
-pub fn end(script: &[u8]) -> usize {
+pub fn end(script: &[u8]) -> usize
+    ensures { result ≡ 5 + length (joined (packets_of script.now)) }
+{
     Packets::of(script)
         .last()
         .map_or(HEAD, |packet| packet.end())
