@@ -4,7 +4,7 @@ use crate::scripts::Planning;
 use crate::settings::Setup;
 use byte_parts::behind;
 use std::io;
-use vector_lines::words::text_of;
+use vector_lines::words::read_text;
 use vector_lines::{cut, read_settings};
 
 // The answer to settings, steps and a text, with a stroke and a space between.
@@ -13,7 +13,7 @@ fn answer(rt: &(impl Print + AllocGlobal), case: &[u8], earlier: &mut [u8]) -> i
     let (steps, words) = cut(behind(rest, 1), b'|');
     let mut setup = Setup::new();
     read_settings(settings, &mut setup);
-    let text = text_of(rt.alloc(), behind(words, 1), input_rooms::TEXT)?;
+    let text = read_text(rt.alloc(), behind(words, 1), input_rooms::TEXT)?;
     let planning = Planning {
         text: &text,
         size: setup.size,

@@ -2,7 +2,7 @@
 use crate::answers::{BEFORE, Plan};
 use byte_parts::behind;
 use std::io;
-use vector_lines::words::text_of;
+use vector_lines::words::read_text;
 use vector_lines::{cut, number_of, secret};
 
 // The answer to numbers and the words of a text, with just as many bytes of password and output as are asked for.
@@ -18,7 +18,7 @@ fn ask(rt: &(impl Print + AllocGlobal), listed: bool, words: &[u8]) -> io::Resul
     if input_rooms::TEXT < room {
         return print!(rt; " no such room");
     }
-    let text = text_of(rt.alloc(), behind(rest, 1), input_rooms::TEXT)?;
+    let text = read_text(rt.alloc(), behind(rest, 1), input_rooms::TEXT)?;
     let mut out = vec![in rt.alloc(); BEFORE; room]?;
     let plan = Plan {
         listed,

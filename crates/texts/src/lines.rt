@@ -1,7 +1,7 @@
 // The lines of texts: each text made, read into a region, and answered.
 use byte_parts::behind;
 use std::io;
-use vector_lines::words::text_of;
+use vector_lines::words::read_text;
 use vector_lines::{number_of, show};
 
 // What every byte of a region is before the call.
@@ -29,7 +29,7 @@ fn answer(rt: &(impl Print + AllocGlobal), case: &[u8]) -> io::Result<()> {
     if input_rooms::REGION < length {
         return print!(rt; " no region of that length");
     }
-    let text = text_of(alloc, behind(rest, 1), input_rooms::TEXT)?;
+    let text = read_text(alloc, behind(rest, 1), input_rooms::TEXT)?;
     let mut region = vec![in alloc; BEFORE; length]?;
     read(rt, &text, size, &mut region)
 }

@@ -48,6 +48,9 @@ decimals-short (suc more) n =
 pub decimal_short : (n : ℕ) → length (decimal n) ≤ 5
 decimal_short = decimals-short 4
 
+pub offset-short : (n : ℕ) → length (decimal n ++ ascii " ") ≤ 6
+offset-short n = rw (length-append (decimal n) (ascii " ")) (omega (arith, decimal_short n))
+
 fields-short : (command : ℕ) (reply : Reply) → length (fields command reply) ≤ 10
 unfolding fields
 fields-short command Nothing = omega arith

@@ -141,7 +141,7 @@ pub fn hex_of(word: &[u8]) -> u32 {
 }
 
 // The bytes of a list of two digits each, a space before each, if it is one.
-pub fn bytes_of(alloc: Global, words: &[u8]) -> Result<Option<Vec<u8>>, AllocError> {
+pub fn read_bytes(alloc: Global, words: &[u8]) -> Result<Option<Vec<u8>>, AllocError> {
     let mut bytes = Vec::new(alloc);
     for word in words.chunks(3) {
         let [b' ', high, low] = word else {

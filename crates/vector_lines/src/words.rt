@@ -54,7 +54,7 @@ fn put_part(part: &[u8], counted: bool, text: &mut Room) -> Result<(), AllocErro
 
 // The text of words whose parts, between stars, are by turns plain and a count with a unit, as much of it as
 // a room of the size holds: the rooms are longer than any text that is read.
-pub fn text_of(alloc: Global, words: &[u8], size: usize) -> Result<Vec<u8>, AllocError>
+pub fn read_text(alloc: Global, words: &[u8], size: usize) -> Result<Vec<u8>, AllocError>
     ensures { IfOk result (λ text. vec_len text ≤ size) }
 {
     let mut text = Room::new(alloc, size);

@@ -29,7 +29,7 @@ fn vector(rt: &(impl Print + AllocGlobal), words: &[u8]) -> io::Result<()> {
     let Some((&kind, list)) = words.split_first() else {
         return Ok(());
     };
-    match vector_lines::bytes_of(rt.alloc(), list)? {
+    match vector_lines::read_bytes(rt.alloc(), list)? {
         Some(bytes) if bytes.len() <= LONGEST => answer(rt, kind, &bytes),
         _ => print!(rt; " not a list of at most {LONGEST} bytes"),
     }

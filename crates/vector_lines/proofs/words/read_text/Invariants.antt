@@ -1,7 +1,7 @@
--- `vector_lines::words::text_of` meets its contract.
+-- `vector_lines::words::read_text` meets its contract.
 -- Assumes nothing.
 use Rattle.std.proofs.Common.{◌≡◌}
-use Rattle.vector_lines.proofs.words.text_of.Given as goal
+use Rattle.vector_lines.proofs.words.read_text.Given as goal
 
 abbrev pub invariant-loop-i : goal.invariant-loop-i
 invariant-loop-i l = l.text.size ≡ l.fn.size
