@@ -43,6 +43,7 @@ fn judge_image(text: &[u8], size: usize) -> Result<(), Refused>
     let mut outside = None;
     let mut repeated = None;
     for token in Reading::of(text) {
+        // opened in two steps, here and in each walk: of a case within a case the proof does not name the token
         let token = match token {
             Ok(token) => token,
             Err(place) => {
