@@ -21,7 +21,7 @@ fn is_hex(b: u8) -> bool
 
 // The value of a hex digit in either letter case: a letter's low bits count from 1 and it has the bit of
 // 64. Digits and letters come at random, so no branch tells them apart: the number 16, of no digit, makes
-// one test of the three ranges. With a return of None from the ranges the reader takes a quarter longer.
+// one test of the three ranges. With a return of None from the ranges the reader took a quarter longer.
 pub fn digit_of(b: u8) -> Option<u8>
     ensures value { value_of result ≡ digit b }
     ensures small { IfSome result (λ value. value < 16) }

@@ -12,7 +12,7 @@ ghost use Rattle.planner.specs.Walk.{PutIfRoom, packet_from, front};
 
 use refusal::{Refusal, Refused};
 use std::marker::Model;
-use text_cursor::{Cursor, Token};
+use text_cursor::{Reading, Token};
 
 // The least length of a write's core: code, address and one byte.
 const LEAST: usize = 6;
@@ -110,35 +110,23 @@ fn put_writes(text: &[u8], n: usize, out: &mut [u8]) -> usize
     // no byte stands before the first segment
     let mut block = Block::new();
     let mut held = n;
-    let mut cursor = Cursor::new();
-    loop {
-        match cursor.next(text) {
-            Ok(
-                Token::Segment {
-                    address,
-                    cursor: next,
-                },
-            ) => {
+    for token in Reading::of(text) {
+        let Ok(token) = token else {
+            return put(block.core(), LEAST, held, out);
+        };
+        match token {
+            Token::Segment { address, .. } => {
                 held = put(block.core(), LEAST, held, out);
                 block.begin(address);
-                cursor = next;
             }
-            Ok(
-                Token::Byte {
-                    address,
-                    value,
-                    cursor: next,
-                    ..
-                },
-            ) => {
+            Token::Byte { address, value, .. } => {
                 held = put(block.core(), FULL, held, out);
                 block.push(address, value);
-                cursor = next;
             }
-            Ok(Token::End) => return put(block.core(), LEAST, held, out),
-            Err(_) => return put(block.core(), LEAST, held, out),
+            Token::End => {}
         }
     }
+    put(block.core(), LEAST, held, out)
 }
 
 // What every script begins with: head, password, erase.

@@ -4,8 +4,10 @@
 #![tactic(auto)]
 
 ghost use Rattle.std.specs.Prelude.{◌≡◌, ℕ, ◌+◌, ◌^◌, ◌<◌, ◌≤◌, drop, length, get_or, Ok, IsTrue, ◌↔◌};
-ghost use Rattle.firmware_text.specs.Machine.{Line, sign, half, full, gap, quit, within};
+ghost use Rattle.firmware_text.specs.Machine.{Line, sign, half, full, gap, quit, within, image_of};
 ghost use Rattle.text_cursor.specs.Walk.{from, near, line_state, stop_state, rest, beginning, Tells};
+ghost use Rattle.text_cursor.specs.Left.{ahead, Gives, left_at};
+ghost use Rattle.std.specs.Iterator.{at_most};
 ghost use Rattle.text_cursor.specs.Parts.{Numbered, end_from, DigitAt, behind, Beyond, ahead_image, Reached};
 
 use firmware_text::digit_of;
@@ -257,5 +259,45 @@ impl Cursor {
             Ahead::Pair(place, high) => another(text, place, pairs, address, high),
             Ahead::Line(place) => line_start(text, place, pairs, address),
         }
+    }
+}
+
+// The tokens of a text, one by one: up to its last line, or to the place where it is malformed.
+#[derive(Drop)]
+pub struct Reading<'a> {
+    text: &'a [u8],
+    // none behind the last line and behind a fault
+    cursor: Option<Cursor>,
+}
+
+impl<'a> Reading<'a> {
+    // From the start of a text.
+    pub fn of(text: &'a [u8]) -> Reading<'a>
+        ensures { ahead result ≡ image_of text.now }
+    {
+        Reading {
+            text,
+            cursor: Some(Cursor::new()),
+        }
+    }
+}
+
+impl<'a> Iterator for Reading<'a> {
+    type Item = Result<Token, usize>;
+
+    ghost next_gives = { Gives };
+
+    ghost remaining = { λ reading. at_most (left_at reading) };
+
+    // The next token. It is built into each walk, so that no token is copied there.
+    #[inline(always)]
+    fn next(&mut self) -> Option<Result<Token, usize>> {
+        let token = self.cursor.take()?.next(self.text);
+        self.cursor = match token {
+            Ok(Token::Segment { cursor, .. }) | Ok(Token::Byte { cursor, .. }) => Some(cursor),
+            Ok(Token::End) => return None,
+            Err(_) => None,
+        };
+        Some(token)
     }
 }

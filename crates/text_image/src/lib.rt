@@ -9,7 +9,7 @@ ghost use Rattle.text_image.specs.Rules.{judged, image_rules, rules_of};
 ghost use Rattle.text_image.specs.Walk.{said};
 
 use refusal::{Refusal, Refused};
-use text_cursor::{Cursor, Token};
+use text_cursor::{Reading, Token};
 
 // The length of the longest text that is read.
 pub const LONGEST: usize = 1048576;
@@ -42,34 +42,30 @@ fn judge_image(text: &[u8], size: usize) -> Result<(), Refused>
     let mut map = [0u8; 32768];
     let mut outside = None;
     let mut repeated = None;
-    let mut cursor = Cursor::new();
-    loop {
-        match cursor.next(text) {
-            Ok(Token::Segment { cursor: next, .. }) => cursor = next,
-            Ok(
-                Token::Byte {
-                    place,
-                    address,
-                    cursor: next,
-                    ..
-                },
-            ) => {
-                if size as u64 <= address {
-                    outside = outside.or(Some(place));
-                } else if address_set::mark(&mut map, address as usize) {
-                    repeated = repeated.or(Some(place));
-                }
-                cursor = next;
-            }
-            Ok(Token::End) => return conclude(outside, repeated),
+    for token in Reading::of(text) {
+        // opened in two steps, here and in each walk: of a case within a case the proof does not name the token
+        let token = match token {
+            Ok(token) => token,
             Err(place) => {
                 return Err(Refused {
                     refusal: Refusal::TextMalformed,
                     place,
                 });
             }
+        };
+        match token {
+            Token::Byte { place, address, .. } => {
+                if size as u64 <= address {
+                    outside = outside.or(Some(place));
+                } else if address_set::mark(&mut map, address as usize) {
+                    repeated = repeated.or(Some(place));
+                }
+            }
+            Token::Segment { .. } => {}
+            Token::End => {}
         }
     }
+    conclude(outside, repeated)
 }
 
 // Whether a text is sound for a region of the size.
@@ -99,23 +95,14 @@ fn store(region: &mut [u8], address: u64, value: u8)
 pub fn place(text: &[u8], region: &mut [u8])
     ensures { region.new ≡ placed (image_of text.now) region.old }
 {
-    let mut cursor = Cursor::new();
-    loop {
-        match cursor.next(text) {
-            Ok(Token::Segment { cursor: next, .. }) => cursor = next,
-            Ok(
-                Token::Byte {
-                    address,
-                    value,
-                    cursor: next,
-                    ..
-                },
-            ) => {
-                store(region, address, value);
-                cursor = next;
-            }
-            Ok(Token::End) => return,
-            Err(_) => return,
+    for token in Reading::of(text) {
+        let Ok(token) = token else {
+            return;
+        };
+        match token {
+            Token::Byte { address, value, .. } => store(region, address, value),
+            Token::Segment { .. } => {}
+            Token::End => {}
         }
     }
 }

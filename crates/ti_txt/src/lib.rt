@@ -12,7 +12,7 @@ ghost use Rattle.text_image.specs.Picture.{picture_of};
 ghost use Rattle.ti_txt.specs.Compared.{BlankElsewhere};
 
 use refusal::{Refusal, Refused};
-use text_cursor::{Cursor, Token};
+use text_cursor::{Reading, Token};
 
 // Sets every byte to 0xFF.
 fn blank(region: &mut [u8])
@@ -56,30 +56,24 @@ fn agrees(text: &[u8], buffer: &[u8]) -> bool
         && same buffer.now (picture_of (length buffer.now) (image_of text.now))) }
 {
     let mut map = [0u8; 32768];
-    let mut cursor = Cursor::new();
-    loop {
-        match cursor.next(text) {
-            Ok(Token::Segment { cursor: next, .. }) => cursor = next,
-            Ok(
-                Token::Byte {
-                    address,
-                    value,
-                    cursor: next,
-                    ..
-                },
-            ) => {
+    for token in Reading::of(text) {
+        let Ok(token) = token else {
+            return false;
+        };
+        match token {
+            Token::Byte { address, value, .. } => {
                 if !holds(buffer, address, value) {
                     return false;
                 }
                 if address_set::mark(&mut map, address as usize) {
                     return false;
                 }
-                cursor = next;
             }
-            Ok(Token::End) => return blank_elsewhere(buffer, &map),
-            Err(_) => return false,
+            Token::Segment { .. } => {}
+            Token::End => {}
         }
     }
+    blank_elsewhere(buffer, &map)
 }
 
 // Whether the buffer is the picture of the text, which is sound for the buffer's length.

@@ -1,11 +1,10 @@
 -- `planner::put_writes` meets its contract: what is left to walk, from the block that is begun on, gives the rest of the packets.
 -- Assumes nothing.
 use mathlib.Core.List.{List}
-use Prim.Native.Nat.{ℕ, ◌-◌}
-use lib.ListN.{length}
+use Prim.Native.Nat.{ℕ}
 use Rattle.firmware_text.specs.Machine.{image_of}
 use Rattle.firmware_text.specs.Segments.{segments_of}
-use Rattle.text_cursor.specs.Walk.{rest}
+use Rattle.text_cursor.specs.Left.{ahead}
 use Rattle.script.specs.Page.{writes_of, packets_of}
 use Rattle.planner.proofs.Walks.{Reaches}
 use Rattle.planner.proofs.put_writes.Given as goal
@@ -14,8 +13,5 @@ use Rattle.planner.proofs.put_writes.Given as goal
 abbrev pub whole : List ℕ → List ℕ
 whole text = packets_of (writes_of (segments_of (image_of text)))
 
-abbrev pub invariant-loop-address : goal.invariant-loop-address
-invariant-loop-address l = Reaches (whole l.text) l.n l.initial.out (rest l.text l.cursor) l.block l.held l.out
-
-abbrev pub decreases-loop-address : goal.decreases-loop-address
-decreases-loop-address l = length l.text - l.cursor.at
+abbrev pub invariant-loop-token : goal.invariant-loop-token
+invariant-loop-token l = Reaches (whole l.text) l.n l.initial.out (ahead l.token-iterator) l.block l.held l.out

@@ -1,50 +1,48 @@
 -- `text_image::place` meets its contract: how far it is, token by token.
 -- Assumes nothing.
 use mathlib.Core.Path.{refl, ap, ◌∙◌}
-use native.Mathlib.Omega.{arith}
-use Rattle.std.proofs.Common.{Ok}
+use mathlib.Core.List.{List}
+use Prim.Native.Nat.{ℕ}
+use mathlib.Core.Path.{◌≡◌}
+use Rattle.std.proofs.Common.{Result, Some, Ok, Err}
+use Rattle.text_cursor.specs.Left.{Gives}
+use Rattle.text_cursor.specs.declared.Token.{Token}
 use Rattle.firmware_text.specs.Image.{Image}
-use Rattle.text_cursor.specs.Walk.{rest}
-use Rattle.text_cursor.proofs.Tokens.{rest-beginning, tells-so, further-so}
+use Rattle.text_cursor.specs.Left.{ahead}
+use Rattle.text_cursor.specs.declared.Reading.{Reading}
+use Rattle.text_cursor.proofs.Tokens.{gives-so}
 use Rattle.text_image.specs.Picture.{placed}
 use Rattle.text_image.proofs.Pictures.{segment-placed, byte-placed, end-placed, broken-placed}
 use Rattle.text_image.proofs.place.Goals as goal
 
-pub loop-next-init : goal.loop-next-init
-loop-next-init c =
-    (refl, ap (λ (i : Image). placed i c.args.region.now) (rest-beginning c.args.text.now _ c.new-cursor.ensures))
+pub loop-token-init : goal.loop-token-init
+loop-token-init c =
+    (refl, ap (λ (i : Image). placed i c.args.region.now) (ap ahead c.into_iter-token-iterator.ensures.into_iter_gives ∙ c.of-token-items.ensures))
 
-pub loop-next-smaller-in-Ok-Segment : goal.loop-next-smaller-in-Ok-Segment
-loop-next-smaller-in-Ok-Segment c =
-    let f = further-so _ _ _ c.next.ensures (c.in-Ok-Segment.is ∙ ap Ok c.in-Ok-Segment.field-0-is) in
-    omega (arith, f.0, f.1)
-
-pub loop-next-preserved-in-Ok-Segment : goal.loop-next-preserved-in-Ok-Segment
-loop-next-preserved-in-Ok-Segment c =
-    let l = c.loop-next in
-    let e = tells-so _ _ _ c.next.ensures (c.in-Ok-Segment.is ∙ ap Ok c.in-Ok-Segment.field-0-is) in
+pub loop-token-preserved-in-Segment : goal.loop-token-preserved-in-Segment
+loop-token-preserved-in-Segment c =
+    let l = c.loop-token in
+    let e = gives-so l.token-iterator c.next.new.self c.in-Some.ensures.steps (c.in-Ok.is ∙ ap Ok c.in-Segment.is) in
     (l.invariant.0, segment-placed e l.region ∙ l.invariant.1)
 
-pub loop-next-smaller : goal.loop-next-smaller
-loop-next-smaller c =
-    let f = further-so _ _ _ c.next.ensures (c.in-Ok-Byte.is ∙ ap Ok c.in-Ok-Byte.field-0-is) in
-    omega (arith, f.0, f.1)
-
-pub loop-next-preserved : goal.loop-next-preserved
-loop-next-preserved c =
-    let l = c.loop-next in
-    let e = tells-so _ _ _ c.next.ensures (c.in-Ok-Byte.is ∙ ap Ok c.in-Ok-Byte.field-0-is) in (
+pub loop-token-preserved-in-Byte : goal.loop-token-preserved-in-Byte
+loop-token-preserved-in-Byte c =
+    let l = c.loop-token in
+    let e = gives-so l.token-iterator c.next.new.self c.in-Some.ensures.steps (c.in-Ok.is ∙ ap Ok c.in-Byte.is) in (
       c.store.auto.region ∙ l.invariant.0,
-      ap (placed (rest c.args.text.now c.in-Ok-Byte.next)) c.store.ensures ∙ byte-placed e l.region ∙ l.invariant.1,
+      ap (placed (ahead c.next.new.self)) c.store.ensures ∙ byte-placed e l.region ∙ l.invariant.1,
     )
 
-pub returns-in-Ok-End : goal.returns-in-Ok-End
-returns-in-Ok-End c =
-    let l = c.loop-next in
-    let e = tells-so _ _ _ c.next.ensures (c.in-Ok-End.is ∙ ap Ok c.in-Ok-End.field-0-is) in
-    end-placed e l.region ∙ l.invariant.1
+fault-placed : (s t : Reading) (r : Result Token ℕ) → Gives s (Some r) t → ((x : Token) → r ≡ Ok x → ⊥) → (l : List ℕ) → l ≡ placed (ahead s) l
+fault-placed s t (Err p) g f l = broken-placed g.0 l
+fault-placed s t (Ok x) g f l = absurd (f x refl)
 
-pub returns-in-Err : goal.returns-in-Err
-returns-in-Err c =
-    let l = c.loop-next in
-    broken-placed (tells-so _ _ _ c.next.ensures c.in-Err.is) l.region ∙ l.invariant.1
+pub returns-in_default : goal.returns-in_default
+returns-in_default c =
+    let l = c.loop-token in
+    fault-placed l.token-iterator c.next.new.self _ c.in-Some.ensures.steps c.in_default.not-Ok l.region ∙ l.invariant.1
+
+pub returns : goal.returns
+returns c =
+    let l = c.loop-token in
+    end-placed c.in-None.ensures.steps l.region ∙ l.invariant.1
