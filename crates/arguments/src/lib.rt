@@ -52,7 +52,7 @@ pub struct Request {
 // The entry address of the vendor's page.
 const ENTRY: u32 = 0x201;
 
-// The greatest size of a region.
+// The greatest size of a region. The crates that judge a size keep their own to themselves.
 const SIZE: usize = 262144;
 
 impl Options {
@@ -125,7 +125,7 @@ fn first(rt: &(impl System + Env)) -> Option<Command> {
     command
 }
 
-// Whether nothing is wrong with the usage. What is wrong is said.
+// Whether nothing is wrong with the usage. What is wrong is said: of a misuse in its own words, not in a file's as `files` does.
 fn is_sound(rt: &impl System, judged: Result<(), Misuse<'_>>) -> bool {
     match judged {
         Ok(()) => true,

@@ -9,7 +9,8 @@ use std::rt::{Env, Files};
 use tool_verdict::Behind;
 
 // Checks a script against the text of so many bytes by the options, and says what came of it. The table of cuts takes a
-// second region: by then the text is done with, and its room is lent for that.
+// second region: by then the text is done with, and its room is lent for that. So script, text and password are no struct, which
+// would hold the room; and `command` is handed down, as a closure in its place would take all that is handed down beside it.
 fn judge(
     rt: &(impl System + Env + Files),
     command: Command,

@@ -47,9 +47,8 @@ fn run(rt: &(impl System + Env + Files + RandomSource + Alloc)) -> io::Result<()
             )
         }
         Command::Show => tool_show::run(rt, options, &mut script),
-        Command::Image | Command::Sums => {
-            tool_image::run(rt, command, options, &mut text, &mut region)
-        }
+        Command::Image => tool_image::image(rt, options, &mut text, &mut region),
+        Command::Sums => tool_image::checksums(rt, options, &mut text, &mut region),
         Command::Picture => tool_output::picture::run(rt, options, &mut text, &mut region),
         Command::Record => tool_record::run(rt, options),
         Command::Help => usage::print(rt),

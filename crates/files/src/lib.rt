@@ -37,7 +37,7 @@ pub struct Rule {
 // The length of a password, and the room to read one into: a byte more shows that a file is too long.
 const PASSWORD: usize = 256;
 
-pub const PASSWORD_ROOM: usize = 257;
+pub const PASSWORD_ROOM: usize = PASSWORD + 1;
 
 // A name as it may be sent to a terminal.
 fn printable(name: &[u8]) -> Word {
@@ -59,7 +59,7 @@ fn complain(rt: &impl System, name: &[u8], why: &impl Display) {
     Line::new().text(": ").reason(why).complain(rt);
 }
 
-// Whether a file is written. Where it is not, that is said, by a name of it.
+// Whether a file is written. Where it is not, that is said, by a name of it, which a misuse of `arguments` has no need of.
 fn is_done(rt: &impl System, name: &[u8], written: Result<(), Reason>) -> bool {
     match written {
         Ok(()) => true,

@@ -76,7 +76,7 @@ fn put_random(rt: &impl RandomSource, name: &mut [u8]) -> io::Result<()> {
     let mut drawn = [0u8; RANDOM];
     rt.fill_bytes(&mut drawn)?;
     for (letter, &number) in name.iter_mut().rev().zip(&drawn) {
-        *letter = LETTERS[number as usize % 62];
+        *letter = LETTERS[usize::from(number) % LETTERS.len()];
     }
     Ok(())
 }
@@ -121,15 +121,8 @@ fn or_remove<E: Drop>(rt: &impl Files, name: &[u8], done: Result<(), E>) -> Resu
     done
 }
 
-// Makes a new file with bytes, by a name at whose end random letters are put; or leaves none.
-fn make(rt: &(impl Files + RandomSource), bytes: &[u8], name: &mut [u8]) -> io::Result<()> {
-    let mut file = create_random(rt, name)?;
-    or_remove(rt, name, fill(&mut file, bytes))
-}
-
-// Makes a new file with bytes by a name; or leaves none.
-fn make_named(rt: &impl Files, bytes: &[u8], name: &[u8]) -> io::Result<()> {
-    let mut file = create(rt, name)?;
+// Puts bytes into a new file that was made by a name; or leaves none.
+fn complete<R: Files>(rt: &R, mut file: R::File, bytes: &[u8], name: &[u8]) -> io::Result<()> {
     or_remove(rt, name, fill(&mut file, bytes))
 }
 
@@ -166,7 +159,8 @@ pub(crate) fn put_at_place(
 ) -> Result<(), Reason> {
     judge(rt, place, rule)?;
     let mut name = name_beside(rt, place).ok_or_else(too_long)?;
-    make(rt, bytes, &mut name)?;
+    let file = create_random(rt, &mut name)?;
+    complete(rt, file, bytes, &name)?;
     or_remove(rt, &name, take_place(rt, &name, place, rule))
 }
 
@@ -185,6 +179,7 @@ pub(crate) fn put_beside(
 ) -> Result<(), Reason> {
     judge(rt, link, rule)?;
     let new = joined(link, b".new").ok_or_else(too_long)?;
-    make_named(rt, bytes, &new)?;
+    let file = create(rt, &new)?;
+    complete(rt, file, bytes, &new)?;
     or_remove(rt, &new, judge(rt, link, rule))
 }

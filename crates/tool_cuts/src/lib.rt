@@ -38,18 +38,19 @@ struct Seen {
     application: bool,
 }
 
-// Reads the region that a card held; where no file is named, it is 0x00 throughout. The answer is its length.
-fn read_region(
+// Reads the region that a card held; where no file is named, it is 0x00 throughout.
+fn read_region<'a>(
     rt: &(impl System + Env + Files),
     options: Options,
-    room: &mut [u8],
-) -> Option<usize> {
+    room: &'a mut [u8],
+) -> Option<&'a mut [u8]> {
     if options.region.is_some() {
-        let held = files::read(rt, options.region, room)?;
-        return Some(held.len());
+        let held = files::read(rt, options.region, room)?.len();
+        return Some(front_mut(room, held));
     }
-    room.fill(0x00);
-    Some(options.size)
+    let region = front_mut(room, options.size);
+    region.fill(0x00);
+    Some(region)
 }
 
 // Says that the region of a file has another length than the card's. A longer file may not have been read whole.
@@ -75,7 +76,7 @@ fn starts(state: Loader, region: &[u8]) -> bool {
 }
 
 // Whether a card comes up in application mode that was cut at a place of a packet; the region that the cut leaves is put
-// into another.
+// into another. Here and below the two are no struct: the one is only read while the other is written.
 fn starts_from(
     state: Loader,
     packet: &[u8],
@@ -160,7 +161,8 @@ fn row(
     Ok(Reached { state, started })
 }
 
-// Says how a card comes up from cuts, as it is sent a script that passes, the region being what it held before.
+// Says how a card comes up from cuts, as it is sent a script that passes, the region being what it held before. Script and
+// password are handed one by one, as the public functions take them.
 fn print(
     rt: &impl Print,
     options: Options,
@@ -198,14 +200,13 @@ pub fn say(
     room: &mut [u8],
 ) -> io::Result<()> {
     let size = options.size;
-    let Some(held) = read_region(rt, options, room) else {
+    let Some(region) = read_region(rt, options, room) else {
         return Ok(());
     };
-    if held != size {
-        return refused(rt, held, size);
+    if region.len() != size {
+        return refused(rt, region.len(), size);
     }
     tool_verdict::passed(rt, script, front(text, length), behind)?;
-    let region = front_mut(room, size);
     print(
         rt,
         options,

@@ -5,7 +5,7 @@
 mod segments;
 mod sums;
 
-use arguments::{Command, Options};
+use arguments::Options;
 use byte_parts::{every, front, front_mut};
 use report::{Line, System};
 use segments::{Segment, Segments};
@@ -15,6 +15,9 @@ use tool_words::{lines, place};
 
 // The characters of a map.
 const CELLS: usize = 64;
+
+// The bytes of the longest map, a bit for each address of the greatest region. `known_bits` keeps its own to itself.
+const LONGEST_MAP: usize = 32768;
 
 // Prints a segment with its number, its address and the number of its bytes.
 fn print_segment(rt: &impl Print, segment: Segment) -> io::Result<()> {
@@ -34,28 +37,18 @@ fn print_segment(rt: &impl Print, segment: Segment) -> io::Result<()> {
     }
 }
 
-// What the segments of a text have: how many they are, and how many bytes.
-#[derive(Clone, Copy)]
-struct Totals {
-    segments: usize,
-    bytes: usize,
-}
-
 // Prints the segments of a text, and marks the addresses that they use.
-fn print_segments(rt: &impl Print, text: &[u8], map: &mut [u8]) -> io::Result<Totals> {
-    let mut totals = Totals {
-        segments: 0,
-        bytes: 0,
-    };
+fn print_segments(rt: &impl Print, text: &[u8], map: &mut [u8]) -> io::Result<()> {
     for segment in Segments::of(text) {
         print_segment(rt, segment)?;
         known_bits::mark_range(map, segment.address, segment.count);
-        totals = Totals {
-            segments: segment.number,
-            bytes: totals.bytes.saturating_add(segment.count),
-        };
     }
-    Ok(totals)
+    Ok(())
+}
+
+// How many bytes the segments of a text have.
+fn bytes_used(text: &[u8]) -> usize {
+    Segments::of(text).fold(0, |used: usize, segment| used.saturating_add(segment.count))
 }
 
 // The character of a part of the region, by the bits of its addresses.
@@ -71,11 +64,8 @@ fn cell(bits: &[u8]) -> u8 {
 
 // The characters of a map, of so many bytes each.
 fn cells_of(map: &[u8], width: usize) -> Line {
-    let mut line = Line::new();
-    for bits in map.chunks(width.max(1)) {
-        line = line.byte(cell(bits));
-    }
-    line
+    map.chunks(width.max(1))
+        .fold(Line::new(), |line, bits| line.byte(cell(bits)))
 }
 
 // Prints the map of a region, a character for each 1/64 of it, by the bits of its addresses, eight to a byte.
@@ -88,47 +78,71 @@ fn print_map(rt: &impl Print, map: &[u8]) -> io::Result<()> {
     cells_of(map, map.len() / CELLS).print(rt)
 }
 
-// Prints the image of a text that is sound for the size.
-fn print(rt: &impl Print, text: &[u8], size: usize, sum: u16) -> io::Result<()> {
-    let mut bits = [0u8; 32768];
+// Prints the image of a text that is sound for the region, which holds it.
+fn print(rt: &impl Print, text: &[u8], region: &[u8]) -> io::Result<()> {
+    let size = region.len();
+    let mut bits = [0u8; LONGEST_MAP];
     let map = front_mut(&mut bits, size / 8);
     lines::bytes(rt, "image in a region of ", size)?;
-    let totals = print_segments(rt, text, map)?;
+    print_segments(rt, text, map)?;
     Line::new()
         .text("bytes used ")
-        .decimal(totals.bytes)
+        .decimal(bytes_used(text))
         .text(" in ")
-        .count(totals.segments, "segment")
+        .count(Segments::of(text).count(), "segment")
         .print(rt)?;
-    lines::checksum(rt, "checksum ", sum)?;
+    lines::checksum(rt, "checksum ", crc::checksum(crc::START, region))?;
     print_map(rt, map)
 }
 
-// Prints what a command wants of a text in a region, or says why the text is refused.
-fn show(
-    rt: &impl Print,
-    command: Command,
-    text: &[u8],
-    size: usize,
+// Puts the text of a file into a region, and prints what a command wants of them, or says why the text is refused.
+fn run<R: System + Env + Files, F: Fn(&[u8], &[u8]) -> io::Result<()>>(
+    rt: &R,
+    options: Options,
+    room: &mut [u8],
     region: &mut [u8],
-) -> io::Result<()> {
-    match ti_txt::read(text, size, region) {
+    say: F,
+) -> io::Result<()>
+    requires { F.IsAlwaysCallable say }
+{
+    let Some(text) = files::read(rt, options.first, room) else {
+        return Ok(());
+    };
+    let region = front_mut(region, options.size);
+    match ti_txt::read(text, options.size, region) {
         Err(refused) => place::refused(rt, text, refused),
-        Ok(()) if command == Command::Sums => sums::print(rt, text, size, region),
-        Ok(()) => print(rt, text, size, crc::checksum(crc::START, region)),
+        Ok(()) => say(text, region),
     }
 }
 
-pub fn run(
+// `image`: prints the image of a firmware text.
+pub fn image(
     rt: &(impl System + Env + Files),
-    command: Command,
     options: Options,
     room: &mut [u8],
     region: &mut [u8],
 ) -> io::Result<()> {
-    let size = options.size;
-    match files::read(rt, options.first, room) {
-        Some(text) => show(rt, command, text, size, front_mut(region, size)),
-        None => Ok(()),
-    }
+    run(
+        rt,
+        options,
+        room,
+        region,
+        |text, region| print(rt, text, region),
+    )
+}
+
+// `sums`: prints the checksums of a firmware text's segments.
+pub fn checksums(
+    rt: &(impl System + Env + Files),
+    options: Options,
+    room: &mut [u8],
+    region: &mut [u8],
+) -> io::Result<()> {
+    run(
+        rt,
+        options,
+        room,
+        region,
+        |text, region| sums::print(rt, text, region),
+    )
 }

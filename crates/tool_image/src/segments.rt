@@ -75,7 +75,7 @@ fn opened_by(token: Result<Token, usize>) -> Option<Opening> {
 }
 
 // How a segment of a text ends that begins at a cursor. Each of its bytes takes at least one of the text, so there are no
-// more than that.
+// more than that. The cursor is moved by hand: an iterator would lose the token behind the last byte, which opens the next.
 fn end_of(text: &[u8], begin: Cursor) -> Ending {
     let mut cursor = begin;
     for count in 0..text.len() {

@@ -3,7 +3,6 @@
 // checksum of all its bytes is what the replies give when they are joined.
 use crate::segments::{Segment, Segments};
 use byte_parts::{behind, front};
-use little_endian::Number;
 use report::Line;
 use std::io;
 use tool_words::lines;
@@ -23,20 +22,20 @@ const REPLY_AT: usize = 65;
 
 // The line with bytes behind it, a space before each.
 fn with_bytes(line: Line, bytes: &[u8]) -> Line {
-    let mut longer = line;
-    for &b in bytes {
-        longer = longer.text(" ").code(b);
-    }
-    longer
+    bytes
+        .iter()
+        .fold(line, |longer, &b| longer.text(" ").code(b))
 }
 
 // The packet that asks a card for the checksum of so many bytes from an address on.
 fn asking(address: usize, count: usize) -> [u8; 12] {
-    let mut core = [0x26u8, 0, 0, 0, 0, 0, 0];
-    ((address % 4294967296) as u32).store_at(1, &mut core);
-    ((count % 65536) as u16).store_at(5, &mut core);
+    let [first, second, third, fourth, ..] = address.to_le_bytes();
+    let [low, high, ..] = count.to_le_bytes();
     let mut message = [0u8; 12];
-    packet::write(&core, &mut message);
+    packet::write(
+        &[0x26, first, second, third, fourth, low, high],
+        &mut message,
+    );
     message
 }
 
@@ -88,40 +87,38 @@ fn replies(count: usize) -> &'static str {
 
 // Prints a segment, the checksum of all its bytes, and its stretches.
 fn print_segment(rt: &impl Print, segment: Segment, bytes: &[u8]) -> io::Result<()> {
-    let mut address = segment.address;
     Line::new()
         .text("segment ")
         .decimal(segment.number)
         .text(" at ")
-        .hex(address)
+        .hex(segment.address)
         .text(", ")
         .count(bytes.len(), "byte")
         .text(", checksum ")
         .checksum(crc::checksum(crc::START, bytes))
         .text(replies(bytes.len()))
         .print(rt)?;
-    for stretch in bytes.chunks(LONGEST) {
+    let addresses = (segment.address..usize::MAX).step_by(LONGEST);
+    for (address, stretch) in addresses.zip(bytes.chunks(LONGEST)) {
         print_stretch(rt, address, stretch)?;
-        address = address.saturating_add(stretch.len());
     }
     Ok(())
 }
 
-// Prints the segments of a text whose image a region holds, and answers how many bytes they have.
-fn print_segments(rt: &impl Print, text: &[u8], region: &[u8]) -> io::Result<usize> {
-    let mut count: usize = 0;
+// Prints the segments of a text whose image a region holds.
+fn print_segments(rt: &impl Print, text: &[u8], region: &[u8]) -> io::Result<()> {
     for segment in Segments::of(text) {
         let bytes = front(behind(region, segment.address), segment.count);
         print_segment(rt, segment, bytes)?;
-        count = count.saturating_add(segment.count);
     }
-    Ok(count)
+    Ok(())
 }
 
 // Prints the table of a text's segments, and whose replies it has.
 fn print_table(rt: &impl Print, text: &[u8], region: &[u8]) -> io::Result<()> {
     print_heading(rt)?;
-    if print_segments(rt, text, region)? == 0 {
+    print_segments(rt, text, region)?;
+    if Segments::of(text).all(|segment| segment.count == 0) {
         return Ok(());
     }
     Line::new()
@@ -130,9 +127,9 @@ fn print_table(rt: &impl Print, text: &[u8], region: &[u8]) -> io::Result<()> {
         .print(rt)
 }
 
-// Prints the checksums of a text that is sound for the size, whose image the region holds.
-pub fn print(rt: &impl Print, text: &[u8], size: usize, region: &[u8]) -> io::Result<()> {
-    lines::bytes(rt, "checksums in a region of ", size)?;
+// Prints the checksums of a text that is sound for the region, which holds its image.
+pub fn print(rt: &impl Print, text: &[u8], region: &[u8]) -> io::Result<()> {
+    lines::bytes(rt, "checksums in a region of ", region.len())?;
     if Segments::of(text).next().is_some() {
         print_table(rt, text, region)?;
     } else {

@@ -19,7 +19,7 @@ const LENGTH: usize = 70;
 
 const ACKNOWLEDGEMENT: usize = 73;
 
-// The length of the longest script.
+// The length of the longest script. The checker keeps its own to itself.
 const LONGEST: usize = 2097152;
 
 // A line with the address of a core behind it.

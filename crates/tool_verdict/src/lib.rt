@@ -77,12 +77,14 @@ fn located(
     place::located(rt, text, refused)
 }
 
-// Says that a script passes.
+// Says that a script passes. One that does ends in a start packet, whose address is the entry.
 pub fn passed(rt: &impl System, script: &[u8], text: &[u8], behind: Behind) -> io::Result<()> {
     Line::new().text("pass").print(rt)?;
     lines::number(rt, "packets ", behind.packets)?;
     lines::checksum(rt, "expected checksum ", behind.expected)?;
-    entry::print(rt, text, packets::last_address(script))?;
+    if let Some(address) = packets::last_address(script) {
+        entry::print(rt, text, address)?;
+    }
     Line::new()
         .text(
             "after a power cut: send 31; if the card answers 02, send 32; then send the whole script again",
@@ -92,6 +94,7 @@ pub fn passed(rt: &impl System, script: &[u8], text: &[u8], behind: Behind) -> i
 
 // Says that a script is refused: why, where, what the loader answers there over the region that the check left, how
 // many packets succeeded, and how many bytes were still unknown. A refusal before the run leaves nothing to say of those.
+// Script, text and password are handed one by one, as the public functions take them: no call below wants all three.
 pub fn refused(
     rt: &impl Print,
     script: &[u8],

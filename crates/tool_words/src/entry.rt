@@ -3,7 +3,8 @@ use report::{Line, System};
 use std::io;
 use text_cursor::{Cursor, Token};
 
-// Whether the image of a text has a byte at an address. Each token takes at least one byte of the text.
+// Whether the image of a text has a byte at an address. Each token takes at least one byte of the text. The cursor is moved
+// by hand, as each token hands back the one behind it: an iterator of tokens would be a type for this one walk.
 fn gives(text: &[u8], wanted: u64) -> bool {
     let mut cursor = Cursor::new();
     for _ in text {

