@@ -97,24 +97,17 @@ fn sensors_unused(s: BoardSensors) -> bool
 }
 
 // Device 2 may set the two bits that device 1 leaves 0.
-#[tactic(auto, unfolding(crate::specs::Rule::devices_unused))]
 fn devices_unused(one: Device, two: Device) -> bool
     ensures { result ≡ devices_unused one two }
 {
-    zeros(&[
-        one.status.error_status,
-        one.status.error_out,
-        temperature::to_byte(one.hbm_temperature),
-        temperature::to_byte(two.hbm_temperature),
-    ])
+    let errors = zeros(&[one.status.error_status, one.status.error_out]);
+    errors & (one.hbm_temperature == 0) & (two.hbm_temperature == 0)
 }
 
-#[tactic(auto, unfolding(crate::specs::Rule::module_unused))]
 fn module_unused(m: NetworkModule) -> bool
     ensures { result ≡ module_unused m }
 {
-    zeros(&[
-        temperature::to_byte(m.temperature),
+    let status = zeros(&[
         m.status.present,
         m.status.interrupt,
         m.status.low_power,
@@ -124,7 +117,8 @@ fn module_unused(m: NetworkModule) -> bool
         m.status.tx_fault,
         m.status.power_enable,
         m.status.over_current,
-    ])
+    ]);
+    (m.temperature == 0) & status
 }
 
 // Whether everything is 0 that the U30 leaves 0.
