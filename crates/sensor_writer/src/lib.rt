@@ -11,16 +11,17 @@ use sensor_values::{
     BitField, BoardSensors, Device, ErrorCounters, InputSensor, NetworkModule, SensorRecord,
 };
 
-// Bit fields in one number, the first lowest. It calls itself as the definition does, over twelve fields at most.
+// Bit fields in one number, the first lowest: the number of the fields above is shifted past each, from the highest down.
 fn packed(fields: &[BitField]) -> u32
     requires { packed fields.now < 2 ^ 32 }
     ensures { result ≡ packed fields.now }
 {
-    match fields {
-        [] => 0,
-        [lowest, above @ ..] => lowest.value as u32
-            + 2u32.saturating_pow(lowest.width) * packed(above),
+    let mut number = 0u32;
+    for i in 0..fields.len() {
+        let field = fields[fields.len() - 1 - i];
+        number = u32::from(field.value) + number.unbounded_shl(field.width);
     }
+    number
 }
 
 // The 4 bytes of an input sensor.
