@@ -25,7 +25,7 @@ ones-byte : (x n : ℕ) → x < 256 → ones (x + 256 * n) ≡ ones n + ones x
 ones-byte x n small = ap ones (add_comm x (256 * n) ∙ ap (λ (m : ℕ). m + x) (mul_comm 256 n)) ∙ ones_cat 8 n x small
 
 -- past the end there is nothing to count
-count_past : (b : List ℕ) (at : ℕ) → length b ≤ at → count_of (drop at b) ≡ 0
+pub count_past : (b : List ℕ) (at : ℕ) → length b ≤ at → count_of (drop at b) ≡ 0
 count_past b at past = ap count_of (drop_of_length-le b {i = at} past)
 
 -- the bits of so many words, and of the bytes behind them, are all
@@ -40,7 +40,7 @@ words-count (suc k) b =
 
 module _ (b : List ℕ) (bytes : Bytes b) where
   -- so many bytes from a place on, and those behind them
-  count-from : (count at : ℕ) → ones (number_at count at b) + count_of (drop (at + count) b) ≡ count_of (drop at b)
+  pub count-from : (count at : ℕ) → ones (number_at count at b) + count_of (drop (at + count) b) ≡ count_of (drop at b)
   unfolding number_at
   count-from zero at = let here : at + 0 ≡ at = omega arith in rw here (omega (arith, ones-le 0 0 (omega arith)))
   count-from (suc count) at = go (ltb at (length b)) refl (count-from count (at + 1))

@@ -32,7 +32,7 @@ over-front new old n long fits =
 -- ---- the work
 
 -- a command without work has none, whatever comes of it
-no-work : (t : Bool) → ◌≡◌ {A = ℕ} 0 (cond t 0 0)
+pub no-work : (t : Bool) → ◌≡◌ {A = ℕ} 0 (cond t 0 0)
 no-work true = refl
 no-work false = refl
 
