@@ -51,19 +51,22 @@ decimal_short = decimals-short 4
 pub offset-short : (n : ℕ) → length (decimal n ++ ascii " ") ≤ 6
 offset-short n = rw (length-append (decimal n) (ascii " ")) (omega (arith, decimal_short n))
 
-fields-short : (command : ℕ) (reply : Reply) → length (fields command reply) ≤ 10
+-- the fields of a line and its end
+pub fields-short : (command : ℕ) (reply : Reply) → length (fields command reply ++ ascii "\n") ≤ 11
 unfolding fields
 fields-short command Nothing = omega arith
 fields-short command (Byte ack) = omega arith
 fields-short command (Message message) = omega arith
 fields-short command (Data sum) = omega arith
 
-name-short : (mode : Mode) → length (mode_name mode) ≤ 11
+-- the name of a mode
+pub name-short : (mode : Mode) → length (mode_name mode) ≤ 11
 name-short Application = omega arith
 name-short Locked = omega arith
 name-short Unlocked = omega arith
 
-word-short : (ending : Ending) → length (word_of ending) ≤ 11
+-- the last word of the end line
+pub word-short : (ending : Ending) → length (word_of ending) ≤ 11
 word-short (InMode mode) = name-short mode
 word-short Cut = omega arith
 word-short Long = omega arith
@@ -75,7 +78,6 @@ line-short at packet reply =
     omega (
       arith,
       length-append (decimal at) (ascii " " ++ (fields command reply ++ ascii "\n")),
-      length-append (fields command reply) (ascii "\n"),
       decimal_short at,
       fields-short command reply,
     )
