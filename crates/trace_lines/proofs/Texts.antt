@@ -1,15 +1,17 @@
--- A number in decimal as the library writes it, and how long the parts of a line are at most.
+-- A number in decimal as the library writes it, how long the parts of a line are at most, and what stands in one that holds a text.
 -- Assumes nothing.
-use mathlib.Core.Path.{◌≡◌, refl}
+use mathlib.Core.Path.{◌≡◌, refl, ap₂, ◌∙◌}
 use mathlib.Core.List.{List, [], ◌∷◌, ◌++◌}
-use Prim.Native.Nat.{ℕ, zero, suc, ◌/◌, ◌%◌, ◌^◌, ◌<◌, ◌≤◌}
+use Prim.Native.Nat.{ℕ, zero, suc, ◌+◌, ◌/◌, ◌%◌, ◌^◌, ◌<◌, ◌≤◌}
 use native.Mathlib.Omega.{arith}
 use borrow.Author.Tests.{lt-ltb, ltb-true, ltb-false}
 use lib.Dec.{ltb}
-use lib.ListN.{length, get_or, length-append}
+use lib.ListN.{length, get_or, take, drop, replicate, length-append, length-replicate}
+use lib.Seq.{take_at}
 use Rattle.std.specs.Fmt.{decimal as written}
 use Rattle.std.proofs.lemmas.Fmt.{decimal_digit, decimal_step}
 use Rattle.crc.specs.Crc.{checksum_of}
+use Rattle.little_endian.proofs.Stored.{stored-between}
 use Rattle.packet.specs.Packet.{core_of}
 use Rattle.power_cut.specs.Cut.{restarted_of}
 use Rattle.loader.specs.declared.Loader.{Loader}
@@ -18,9 +20,10 @@ use Rattle.loader.specs.declared.Mode.TheVariants.{Application, Locked, Unlocked
 use Rattle.loader.specs.declared.Reply.{Reply}
 use Rattle.loader.specs.declared.Reply.TheVariants.{Nothing, Byte, Message, Data}
 use Rattle.test_laws.proofs.Tests.{on-cond}
-use Rattle.trace_lines.specs.Lines.{ascii, digit, decimals, decimal, fields, line_of, mode_name, word_of, end_line, four_digits, cut_line}
+use Rattle.trace_lines.specs.Lines.{ascii, digit, decimals, decimal, fields, line_of, mode_name, word_of, end_line, four_digits, cut_line, line_text, Holds}
 use Rattle.trace_lines.specs.declared.Ending.{Ending}
 use Rattle.trace_lines.specs.declared.Ending.TheVariants.{InMode, Cut, Long, Mark}
+use Rattle.trace_lines.specs.declared.Line.{Line}
 
 -- a number in decimal is what the library writes of it
 decimals-written : (more n : ℕ) → n < 10 ^ suc more → n < 2 ^ 64 → decimals more n ≡ written n
@@ -105,3 +108,10 @@ end_short at ending =
       decimal_short at,
       word-short ending,
     )
+
+-- the text of a line stands at its front
+pub text_in : (line : Line) (text : List ℕ) → Holds line text → length text ≤ 32 → line_text line ≡ text
+text_in line text h short =
+    let zeros : List ℕ = replicate 32 0 in
+    let front : 0 + length text ≤ length zeros = rw (length-replicate {A = ℕ} 32 0) (omega arith) in
+    ap₂ (λ (n : ℕ) (l : List ℕ). take n l) h.0 (h.1 ∙ stored-between 0 text zeros front) ∙ take_at text (drop (0 + length text) zeros) (0 + length text) (omega arith)

@@ -1,9 +1,10 @@
 -- The lines of a trace (document 01, "Worked numbers", its last paragraph) and of the cuts (document 02, T-07).
 -- Assumes nothing.
-use Rattle.std.specs.Prelude.{cond, List, [], ◌∷◌, ◌++◌, ℕ, zero, suc, ◌+◌, ◌/◌, ◌%◌, ltb, get_or}
+use Rattle.std.specs.Prelude.{cond, List, [], ◌∷◌, ◌++◌, ℕ, zero, suc, ◌+◌, ◌/◌, ◌%◌, ltb, get_or, take, replicate}
 use Prim.Native.Char.{code}
 use Prim.Native.String.{String, len, char_at}
 use Rattle.crc.specs.Crc.{checksum_of}
+use Rattle.little_endian.specs.Bytes.{PutBehind}
 use Rattle.packet.specs.Packet.{core_of}
 use Rattle.power_cut.specs.Cut.{restarted_of}
 use Rattle.loader.specs.declared.Loader.{Loader}
@@ -13,6 +14,7 @@ use Rattle.loader.specs.declared.Reply.{Reply}
 use Rattle.loader.specs.declared.Reply.TheVariants.{Nothing, Byte, Message, Data}
 use Rattle.trace_lines.specs.declared.Ending.{Ending}
 use Rattle.trace_lines.specs.declared.Ending.TheVariants.{InMode, Cut, Long, Mark}
+use Rattle.trace_lines.specs.declared.Line.{Line}
 
 -- so many characters of a text from a place on, as bytes
 abbrev pub codes : (count at : ℕ) → String → List ℕ
@@ -78,3 +80,11 @@ cut_line at place loader region =
     let mode : Mode = (restarted_of loader region).mode in
     let sum : ℕ = checksum_of region in
     decimal at ++ (ascii " " ++ (decimal place ++ (ascii " " ++ (mode_name mode ++ (ascii " " ++ (four_digits sum ++ ascii "\n"))))))
+
+-- the text of a line: the first of its bytes, so many as its length
+abbrev pub line_text : Line → List ℕ
+line_text line = take line.length line.bytes
+
+-- a line holds a text: the text stands over the front of 32 zero bytes, and the line's length is the text's
+abbrev pub Holds : Line → List ℕ → Type 0
+Holds line text = PutBehind text 0 (replicate 32 0) line.length line.bytes

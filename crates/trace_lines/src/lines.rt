@@ -1,9 +1,9 @@
 // The lines of a trace and of the cuts.
 ghost use Rattle.std.specs.Prelude.{◌≡◌, ◌++◌, ◌+◌, ◌≤◌, length};
-ghost use Rattle.trace_lines.specs.Lines.{fields, line_of, mode_name, word_of, end_line, four_digits, cut_line};
+ghost use Rattle.trace_lines.specs.Lines.{fields, line_of, mode_name, word_of, end_line, four_digits, cut_line, line_text, Holds};
 
-use crate::Ending;
-use crate::line::Line;
+use crate::draft::Draft;
+use crate::{Ending, Line};
 use loader::{Loader, Mode, Reply};
 
 // The name of a mode.
@@ -31,7 +31,7 @@ fn word(ending: Ending) -> &'static [u8]
     }
 }
 
-impl Line {
+impl Draft {
     // Command, ack and message of a packet.
     #[tactic(auto, unfolding(crate::specs::Lines::fields))]
     fn append_fields(&mut self, command: u8, reply: Reply)
@@ -75,43 +75,46 @@ impl Line {
 
 // The line of a packet at an offset.
 pub fn packet_line(at: u16, packet: &[u8], reply: Reply) -> Line
-    ensures { result ≡ line_of at packet.now reply }
+    ensures text { line_text result ≡ line_of at packet.now reply }
+    ensures zeros { Holds result (line_of at packet.now reply) }
 {
-    let mut line = Line::new();
-    line.append_decimal(at);
-    line.append(b" ");
-    line.append_fields(little_endian::byte_at(packet::core(packet), 0), reply);
-    line.append(b"\n");
-    line
+    let mut draft = Draft::new();
+    draft.append_decimal(at);
+    draft.append(b" ");
+    draft.append_fields(little_endian::byte_at(packet::core(packet), 0), reply);
+    draft.append(b"\n");
+    draft.line()
 }
 
 // The end line at an offset.
 pub fn end_line(at: u16, ending: Ending) -> Line
-    ensures { result ≡ end_line at ending }
+    ensures text { line_text result ≡ end_line at ending }
+    ensures zeros { Holds result (end_line at ending) }
 {
-    let mut line = Line::new();
-    line.append(b"end ");
-    line.append_decimal(at);
-    line.append(b" ");
-    line.append(word(ending));
-    line.append(b"\n");
-    line
+    let mut draft = Draft::new();
+    draft.append(b"end ");
+    draft.append_decimal(at);
+    draft.append(b" ");
+    draft.append(word(ending));
+    draft.append(b"\n");
+    draft.line()
 }
 
 // The line of a cut at an offset and a place, for the region that it leaves.
 pub fn cut_line(at: u16, place: u16, state: Loader, region: &[u8]) -> Line
-    ensures { result ≡ cut_line at place state region.now }
+    ensures text { line_text result ≡ cut_line at place state region.now }
+    ensures zeros { Holds result (cut_line at place state region.now) }
 {
     let mode = power_cut::restarted(state, region).mode;
     let sum = crc::checksum(crc::START, region);
-    let mut line = Line::new();
-    line.append_decimal(at);
-    line.append(b" ");
-    line.append_decimal(place);
-    line.append(b" ");
-    line.append(name(mode));
-    line.append(b" ");
-    line.append_four_digits(sum);
-    line.append(b"\n");
-    line
+    let mut draft = Draft::new();
+    draft.append_decimal(at);
+    draft.append(b" ");
+    draft.append_decimal(place);
+    draft.append(b" ");
+    draft.append(name(mode));
+    draft.append(b" ");
+    draft.append_four_digits(sum);
+    draft.append(b"\n");
+    draft.line()
 }

@@ -2,7 +2,7 @@
 ghost use Rattle.std.specs.Prelude.{◌≡◌, suc, ◌<◌, ◌≤◌, length};
 ghost use Rattle.little_endian.specs.Bytes.{PutBehind};
 ghost use Rattle.loader.specs.Loader.{received_of};
-ghost use Rattle.trace_lines.specs.Lines.{end_line};
+ghost use Rattle.trace_lines.specs.Lines.{end_line, line_text};
 ghost use Rattle.trace_text.specs.Trace.{Kind, Trace as OfTrace, Cuts as OfCuts, cut_lines, packet_lines};
 
 use crate::card::Card;
@@ -10,8 +10,8 @@ use trace_lines::{Ending, Line, cut_line, end_line, packet_line};
 
 // A line over the front of a buffer; the answer is its length.
 fn append(line: &Line, out: &mut [u8]) -> usize
-    requires { length line.now ≤ length out.old }
-    ensures { PutBehind line.now 0 out.old result out.new }
+    requires { length (line_text line.now) ≤ length out.old }
+    ensures { PutBehind (line_text line.now) 0 out.old result out.new }
 {
     let bytes = line.as_bytes();
     little_endian::store(bytes, 0, out);

@@ -1,59 +1,60 @@
-// A line and what is put behind it.
-ghost use Rattle.std.specs.Prelude.{◌≡◌, ◌++◌, ◌+◌, ◌/◌, ◌%◌, ◌<◌, ◌≤◌, length, take, List, [], ℕ};
-ghost use Rattle.trace_lines.specs.Lines.{digit, decimal, hex};
+// A line while it is put together.
+ghost use Rattle.std.specs.Prelude.{◌≡◌, ◌++◌, ◌+◌, ◌/◌, ◌%◌, ◌<◌, ◌≤◌, length, List, [], ℕ};
+ghost use Rattle.trace_lines.specs.Lines.{digit, decimal, hex, line_text, Holds};
 
+use crate::{Line, ROOM};
 use std::marker::Model;
 
-// How many bytes a line has room for. The longest has 29.
-const ROOM: usize = 32;
-
-// The bytes of a line, its end included.
+// A line behind whose bytes its room is still zeros.
 #[derive(Drop)]
-pub struct Line {
-    bytes: [u8; ROOM],
-    length: usize,
+pub struct Draft {
+    line: Line,
 }
 
-impl Model for Line {
+impl Model for Draft {
     ghost Value = { List ℕ };
 
-    ghost view = { λ line. take line.length line.bytes };
+    ghost view = { λ draft. line_text draft.line };
 
-    ghost invariant = { λ line. line.length ≤ 32 };
+    ghost invariant = { λ draft. (draft.line.length ≤ 32) × Holds draft.line (line_text draft.line) };
 }
 
 // Each part that is put behind a line asks for its own room, so that no one fact stands for all of them.
-impl Line {
+impl Draft {
     // A line of no bytes.
-    pub(crate) fn new() -> Self
+    pub fn new() -> Self
         ensures { result ≡ [] }
     {
-        Line {
-            bytes: [0; ROOM],
-            length: 0,
+        Draft {
+            line: Line {
+                bytes: [0; ROOM],
+                length: 0,
+            },
         }
     }
 
-    // Its bytes.
-    pub fn as_bytes(&self) -> &[u8]
-        ensures { result.now ≡ self.now }
+    // The line as it is handed back.
+    pub fn line(&self) -> Line
+        ensures text { line_text result ≡ self.now }
+        ensures zeros { Holds result self.now }
     {
-        &self.bytes[..self.length]
+        self.line
     }
 
     // Bytes behind it.
-    pub(crate) fn append(&mut self, new: &[u8])
+    pub fn append(&mut self, new: &[u8])
         requires { length self.old + length new.now ≤ 32 }
         ensures text { self.new ≡ self.old ++ new.now }
         ensures longer { length self.new ≡ length self.old + length new.now }
     {
-        let end = self.length + new.len();
-        self.bytes[self.length..end].copy_from_slice(new);
-        self.length = end;
+        let line = &mut self.line;
+        let end = line.length + new.len();
+        line.bytes[line.length..end].copy_from_slice(new);
+        line.length = end;
     }
 
     // A byte in two lower-case hex digits.
-    pub(crate) fn append_hex(&mut self, byte: u8)
+    pub fn append_hex(&mut self, byte: u8)
         requires { length self.old + 2 ≤ 32 }
         ensures text { self.new ≡ self.old ++ hex byte }
         ensures longer { length self.new ≡ length self.old + 2 }
@@ -63,7 +64,7 @@ impl Line {
 
     // A number in decimal.
     #[tactic(auto, using(crate::proofs::Texts::decimal_written, crate::proofs::Texts::decimal_short))]
-    pub(crate) fn append_decimal(&mut self, number: u16)
+    pub fn append_decimal(&mut self, number: u16)
         requires { length self.old + 5 ≤ 32 }
         ensures text { self.new ≡ self.old ++ decimal number }
         ensures longer { length self.new ≤ length self.old + 5 }
