@@ -1,5 +1,7 @@
 // Places in a firmware text, as people count: the line and the column, and the line itself with a mark
 // below the column.
+ghost use Rattle.std.specs.Prelude.{◌≤◌};
+
 use crate::cause;
 use byte_parts::{front, line_at};
 use refusal::{Refusal, Refused};
@@ -17,7 +19,9 @@ struct Position {
 const SHOWN: usize = 72;
 
 // The line in which a place of a text stands.
-fn position_of(text: &[u8], place: usize) -> Position {
+fn position_of(text: &[u8], place: usize) -> Position
+    ensures { result.start ≤ place }
+{
     let before = front(text, place);
     let ends = before.iter().filter(|b| **b == b'\n').count();
     let start = before
@@ -50,7 +54,7 @@ fn print_mark(rt: &impl Print, column: usize) -> io::Result<()> {
 // Says where a place of a text stands.
 fn in_text(rt: &impl Print, text: &[u8], place: usize) -> io::Result<()> {
     let at = position_of(text, place);
-    let column = place.saturating_sub(at.start);
+    let column = place - at.start;
     cause::place(place)
         .text(": line ")
         .decimal(at.line)
