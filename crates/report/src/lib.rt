@@ -11,6 +11,7 @@ ghost use Rattle.report.specs.Shown.{holds, left};
 
 use arrayvec::ArrayVec;
 use byte_parts::front;
+use std::convert::AsSlice;
 use std::fmt::{Display, Write};
 use std::rt::HostRuntime;
 use std::{fmt, io, process, str};
@@ -91,11 +92,11 @@ impl Line {
         self.bytes(&[b])
     }
 
-    // The line with words behind it.
-    pub fn text(self, words: &str) -> Line
-        ensures { holds result ≡ lengthened (holds self) words.now }
+    // The line with words behind it: text, or bytes that need not be any.
+    pub fn text<W: AsSlice<u8> + Drop>(self, words: W) -> Line
+        ensures { holds result ≡ lengthened (holds self) (W.items words) }
     {
-        self.bytes(words.as_bytes())
+        self.bytes(words.as_slice())
     }
 
     // The line with a name behind it that came from outside, without its control characters.
@@ -139,7 +140,7 @@ impl Line {
     }
 
     // The line with a number of things behind it: `1 packet`, `2 packets`.
-    pub fn count(self, n: usize, thing: &str) -> Line {
+    pub fn count<W: AsSlice<u8> + Drop>(self, n: usize, thing: W) -> Line {
         let line = self.decimal(n).text(" ").text(thing);
         if n == 1 { line } else { line.text("s") }
     }
@@ -149,9 +150,10 @@ impl Line {
         self.shown(format_args!("{n:#x}"))
     }
 
-    // The line with a byte behind it in two hexadecimal digits.
-    pub fn code(self, byte: u8) -> Line {
-        self.shown(format_args!("{byte:02x}"))
+    // The line with a number behind it in at least so many hexadecimal digits, at most 16.
+    pub fn code(self, n: usize, least: usize) -> Line {
+        let width = least.min(16);
+        self.shown(format_args!("{n:0width$x}"))
     }
 
     // The line with a checksum behind it. No format, since std leaves open what one writes that fails.

@@ -24,7 +24,7 @@ const REPLY_AT: usize = 65;
 fn with_bytes(line: Line, bytes: &[u8]) -> Line {
     bytes
         .iter()
-        .fold(line, |longer, &b| longer.text(" ").code(b))
+        .fold(line, |longer, &b| longer.text(" ").code(b.into(), 2))
 }
 
 // The packet that asks a card for the checksum of so many bytes from an address on.

@@ -126,7 +126,8 @@ fn name_of(code: u8) -> Option<&'static str> {
 
 // A line with the code of a command behind it, and its name.
 fn coded(line: Line, code: u8) -> Line {
-    line.code(code).text(name_of(code).unwrap_or(" unknown"))
+    line.code(code.into(), 2)
+        .text(name_of(code).unwrap_or(" unknown"))
 }
 
 // A line with the command of a packet behind it.
@@ -160,7 +161,7 @@ pub fn command_at(line: Line, script: &[u8], at: usize) -> Line {
 
 // A line with the acknowledgement of a packet behind it, and what it says.
 pub fn acknowledgement(line: Line, code: u8) -> Line {
-    line.code(code).text(match code {
+    line.code(code.into(), 2).text(match code {
         0x51 => " does not begin with 80",
         0x52 => " checksum wrong",
         0x53 => " core length 0",
@@ -172,7 +173,7 @@ pub fn acknowledgement(line: Line, code: u8) -> Line {
 
 // A line with a message of the loader behind it, and what it says.
 pub fn message(line: Line, code: u8) -> Line {
-    line.code(code).text(match code {
+    line.code(code.into(), 2).text(match code {
         0x00 => " done",
         0x01 => " outside the region, not writable, or not to be started",
         0x04 => " locked",
