@@ -38,7 +38,7 @@ Exit status: 0 pass or success, 1 refused, 2 wrong usage, or a file that cannot 
 
 // Says how the program is used.
 pub fn print(rt: &impl Print) -> io::Result<()> {
-    rt.print(USAGE)
+    rt.write_all(USAGE.as_bytes())
 }
 
 // Says the version of the program.
