@@ -73,10 +73,9 @@ impl Options {
 
 // An argument, if it is there and no longer than a word.
 fn word(rt: &impl Env, argument: usize) -> Option<Word> {
-    let mut word = Word::from([0; PATH_MAX]);
-    let held = rt.arg(argument, &mut word).ok()?;
-    word.truncate(held);
-    Some(word)
+    let mut room = [0; PATH_MAX];
+    let held = rt.arg(argument, &mut room).ok()?;
+    Word::try_from(&room[..held]).ok()
 }
 
 // The word of a name, empty where there is none.
@@ -141,14 +140,11 @@ fn rest(rt: &(impl System + Env), command: Command) -> Option<Reading> {
     let mut reading = Reading::new();
     let mut sound = true;
     for argument in 2..usize::MAX {
-        let mut word = Word::from([0; PATH_MAX]);
-        match rt.arg(argument, &mut word) {
-            Ok(held) => {
-                word.truncate(held);
-                sound &= is_sound(rt, reading.take(command, &word, argument));
-            }
+        let mut room = [0; PATH_MAX];
+        match rt.arg(argument, &mut room) {
+            Ok(held) => sound &= is_sound(rt, reading.take(command, &room[..held], argument)),
             Err(FillError::TooLong) => {
-                Misuse::new("an argument is too long: ", &word).complain(rt);
+                Misuse::new("an argument is too long: ", &room).complain(rt);
                 sound = false;
             }
             Err(FillError::NotPresent) => break,
