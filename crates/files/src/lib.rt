@@ -59,10 +59,11 @@ fn complain(rt: &impl System, name: &[u8], why: &impl Display) {
     Line::new().text(": ").reason(why).complain(rt);
 }
 
-// Whether a file is written. Where it is not, that is said, by a name of it, which a misuse of `arguments` has no need of.
-fn is_done(rt: &impl System, name: &[u8], written: Result<(), Reason>) -> bool {
+// Whether a file is written. Where it is not, that is said, by a name of it, which a misuse of `arguments` has no need of; or
+// it was said before.
+fn is_done(rt: &impl System, name: &[u8], written: Result<bool, Reason>) -> bool {
     match written {
-        Ok(()) => true,
+        Ok(done) => done,
         Err(why) => {
             complain(rt, name, &why);
             false
@@ -138,7 +139,7 @@ pub fn save(
     if let Some(link) = arguments::link_of(rt, to)
         && !new::leads_in_text(rt, &path)
     {
-        return is_done(rt, &path, new::put_beside(rt, &link, bytes, rule));
+        return is_done(rt, &path, new::put_beside(rt, &path, &link, bytes, rule));
     }
     match new::place_of(rt, &path, rule) {
         Ok(place) => is_done(rt, &place, new::put_at_place(rt, &place, bytes, rule)),

@@ -1,7 +1,7 @@
 // A new file in the place of another: it is made in the folder of that place, and takes its name once its bytes are on
 // their device. So the old file stands until the new one is whole.
-use crate::Rule;
 use crate::standing::{Reason, judge};
+use crate::{Rule, is_done};
 use report::{Line, System};
 use std::fs::{OpenFile, OpenOptions, Permissions};
 use std::io::{Error, ErrorKind, Write};
@@ -111,12 +111,17 @@ fn fill(file: &mut (impl OpenFile + Write), bytes: &[u8]) -> io::Result<()> {
     written
 }
 
-// What came of a step after which a new file is removed that is not wanted any more.
-fn or_remove<E: Drop>(rt: &impl Files, name: &[u8], done: Result<(), E>) -> Result<(), E> {
-    if done.is_err()
-        && let Ok(path) = text(name)
-    {
+// Removes a new file that is not wanted any more.
+fn remove(rt: &impl Files, name: &[u8]) {
+    if let Ok(path) = text(name) {
         let _ = fs::remove_file(rt, path);
+    }
+}
+
+// What came of a step after which a new file is not wanted if it failed.
+fn or_remove(rt: &impl Files, name: &[u8], done: io::Result<()>) -> io::Result<()> {
+    if done.is_err() {
+        remove(rt, name);
     }
     done
 }
@@ -126,17 +131,25 @@ fn complete<R: Files>(rt: &R, mut file: R::File, bytes: &[u8], name: &[u8]) -> i
     or_remove(rt, name, fill(&mut file, bytes))
 }
 
-// Gives a new file the name of a place, which is looked at again, as writing takes its time, in which another file may have
-// come there.
-fn take_place(
-    rt: &(impl Env + Files),
+// Whether a new file may take its place still, which is looked at again, as writing takes its time, in which another file may
+// have come there. Where it may not, that is said, by a name of the place, and only then is the new file removed.
+fn is_free_still(
+    rt: &(impl System + Env + Files),
+    new: &[u8],
     name: &[u8],
     place: &[u8],
     rule: Rule,
-) -> Result<(), Reason> {
-    judge(rt, place, rule)?;
-    fs::rename(rt, text(name)?, text(place)?)?;
-    Ok(())
+) -> bool {
+    let free = is_done(rt, name, judge(rt, place, rule).map(|()| true));
+    if !free {
+        remove(rt, new);
+    }
+    free
+}
+
+// Gives a new file the name of a place.
+fn rename(rt: &impl Files, new: &[u8], place: &[u8]) -> io::Result<()> {
+    fs::rename(rt, text(new)?, text(place)?)
 }
 
 // The place of the file at a path, or where its link leads, if what stands at the path may be replaced.
@@ -150,18 +163,23 @@ pub(crate) fn place_of(
     Ok(place)
 }
 
-// Puts bytes into the file at a place that is no link, whole or not at all. The place is looked at by its own name.
+// Puts bytes into the file at a place that is no link, whole or not at all. The place is looked at by its own name. The answer
+// is whether it did; where it did not, that was said.
 pub(crate) fn put_at_place(
     rt: &(impl System + Env + Files + RandomSource),
     place: &[u8],
     bytes: &[u8],
     rule: Rule,
-) -> Result<(), Reason> {
+) -> Result<bool, Reason> {
     judge(rt, place, rule)?;
-    let mut name = name_beside(rt, place).ok_or_else(too_long)?;
-    let file = create_random(rt, &mut name)?;
-    complete(rt, file, bytes, &name)?;
-    or_remove(rt, &name, take_place(rt, &name, place, rule))
+    let mut new = name_beside(rt, place).ok_or_else(too_long)?;
+    let file = create_random(rt, &mut new)?;
+    complete(rt, file, bytes, &new)?;
+    if !is_free_still(rt, &new, place, place, rule) {
+        return Ok(false);
+    }
+    or_remove(rt, &new, rename(rt, &new, place))?;
+    Ok(true)
 }
 
 // Whether a path and all to which it leads by links are UTF-8, so that a file can be put there by its own name.
@@ -170,16 +188,17 @@ pub(crate) fn leads_in_text(rt: &(impl Files + Alloc), path: &[u8]) -> bool {
 }
 
 // Puts bytes into a new file beside a link which is lent, if the file to which it leads may be replaced. The launcher then
-// gives it that file's name.
+// gives it that file's name. The answer is whether it is made; where it is not, that was said, by a name of the file.
 pub(crate) fn put_beside(
-    rt: &(impl Env + Files),
+    rt: &(impl System + Env + Files),
+    name: &[u8],
     link: &[u8],
     bytes: &[u8],
     rule: Rule,
-) -> Result<(), Reason> {
+) -> Result<bool, Reason> {
     judge(rt, link, rule)?;
     let new = joined(link, b".new").ok_or_else(too_long)?;
     let file = create(rt, &new)?;
     complete(rt, file, bytes, &new)?;
-    or_remove(rt, &new, judge(rt, link, rule))
+    Ok(is_free_still(rt, &new, name, link, rule))
 }
