@@ -37,18 +37,28 @@ fn print_segment(rt: &impl Print, segment: Segment) -> io::Result<()> {
     }
 }
 
-// Prints the segments of a text, and marks the addresses that they use.
-fn print_segments(rt: &impl Print, text: &[u8], map: &mut [u8]) -> io::Result<()> {
+// What the segments of a text have: how many they are, and how many bytes.
+#[derive(Clone, Copy)]
+struct Totals {
+    segments: usize,
+    bytes: usize,
+}
+
+// Prints the segments of a text, marks the addresses that they use, and adds them up: all in one walk over the text.
+fn print_segments(rt: &impl Print, text: &[u8], map: &mut [u8]) -> io::Result<Totals> {
+    let mut totals = Totals {
+        segments: 0,
+        bytes: 0,
+    };
     for segment in Segments::of(text) {
         print_segment(rt, segment)?;
         known_bits::mark_range(map, segment.address, segment.count);
+        totals = Totals {
+            segments: segment.number,
+            bytes: totals.bytes.saturating_add(segment.count),
+        };
     }
-    Ok(())
-}
-
-// How many bytes the segments of a text have.
-fn bytes_used(text: &[u8]) -> usize {
-    Segments::of(text).fold(0, |used: usize, segment| used.saturating_add(segment.count))
+    Ok(totals)
 }
 
 // The character of a part of the region, by the bits of its addresses.
@@ -84,12 +94,12 @@ fn print(rt: &impl Print, text: &[u8], region: &[u8]) -> io::Result<()> {
     let mut bits = [0u8; LONGEST_MAP];
     let map = front_mut(&mut bits, size / 8);
     lines::bytes(rt, "image in a region of ", size)?;
-    print_segments(rt, text, map)?;
+    let totals = print_segments(rt, text, map)?;
     Line::new()
         .text("bytes used ")
-        .decimal(bytes_used(text))
+        .decimal(totals.bytes)
         .text(" in ")
-        .count(Segments::of(text).count(), "segment")
+        .count(totals.segments, "segment")
         .print(rt)?;
     lines::checksum(rt, "checksum ", crc::checksum(crc::START, region))?;
     print_map(rt, map)

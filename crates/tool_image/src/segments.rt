@@ -41,6 +41,11 @@ impl<'a> Segments<'a> {
             next: opened_by(Cursor::new().next(text)),
         }
     }
+
+    // Whether no line opens a segment more. To ask is no walk to the segment's end, as `next` is.
+    pub(crate) fn is_done(&self) -> bool {
+        self.next.is_none()
+    }
 }
 
 impl<'a> Iterator for Segments<'a> {

@@ -105,20 +105,21 @@ fn print_segment(rt: &impl Print, segment: Segment, bytes: &[u8]) -> io::Result<
     Ok(())
 }
 
-// Prints the segments of a text whose image a region holds.
-fn print_segments(rt: &impl Print, text: &[u8], region: &[u8]) -> io::Result<()> {
-    for segment in Segments::of(text) {
+// Prints the segments of a text whose image a region holds. The answer is whether any has a byte.
+fn print_segments(rt: &impl Print, segments: Segments<'_>, region: &[u8]) -> io::Result<bool> {
+    let mut any = false;
+    for segment in segments {
         let bytes = front(behind(region, segment.address), segment.count);
         print_segment(rt, segment, bytes)?;
+        any |= segment.count != 0;
     }
-    Ok(())
+    Ok(any)
 }
 
 // Prints the table of a text's segments, and whose replies it has.
-fn print_table(rt: &impl Print, text: &[u8], region: &[u8]) -> io::Result<()> {
+fn print_table(rt: &impl Print, segments: Segments<'_>, region: &[u8]) -> io::Result<()> {
     print_heading(rt)?;
-    print_segments(rt, text, region)?;
-    if Segments::of(text).all(|segment| segment.count == 0) {
+    if !print_segments(rt, segments, region)? {
         return Ok(());
     }
     Line::new()
@@ -130,10 +131,11 @@ fn print_table(rt: &impl Print, text: &[u8], region: &[u8]) -> io::Result<()> {
 // Prints the checksums of a text that is sound for the region, which holds its image.
 pub fn print(rt: &impl Print, text: &[u8], region: &[u8]) -> io::Result<()> {
     lines::bytes(rt, "checksums in a region of ", region.len())?;
-    if Segments::of(text).next().is_some() {
-        print_table(rt, text, region)?;
-    } else {
+    let segments = Segments::of(text);
+    if segments.is_done() {
         Line::new().text("no segment").print(rt)?;
+    } else {
+        print_table(rt, segments, region)?;
     }
     Line::new()
         .text("image checksum ")
