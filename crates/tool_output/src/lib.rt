@@ -5,6 +5,9 @@
 pub mod picture;
 pub mod plan;
 
+ghost use Rattle.std.specs.Prelude.{◌≡◌};
+ghost use Rattle.crc.specs.Crc.{checksum_of};
+
 use arguments::{Name, Options};
 use files::{Replacing, Rule};
 
@@ -19,7 +22,9 @@ fn rule(options: Options, second: Option<Name>, usual: Replacing) -> Rule {
 
 // The checksum of the picture of a text, which is put into a region for it. Where the text is refused, it
 // is that of the region as it was.
-fn image_checksum(text: &[u8], region: &mut [u8]) -> u16 {
+pub fn image_checksum(text: &[u8], region: &mut [u8]) -> u16
+    ensures { result ≡ checksum_of region.new }
+{
     let _ = ti_txt::read(text, region.len(), region);
     crc::checksum(crc::START, region)
 }

@@ -11,7 +11,7 @@ use packet::Command;
 use report::Line;
 
 // The length of a script's head.
-const HEAD: usize = 5;
+pub const HEAD: usize = 5;
 
 // Where the columns of a list of packets begin: offset, command, and what stands behind it. The number of a packet ends
 // before the column that comes next.
