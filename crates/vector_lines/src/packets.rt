@@ -1,6 +1,8 @@
 // The bytes that the words of a line stand for: two hexadecimal digits are a byte, `256*ff` is a byte so
 // many times, `00..ff` the bytes from one to another, `@1f780` the four bytes of an address, low byte
 // first; words in brackets are a core, which stands for the packet around it.
+ghost use Rattle.std.specs.Prelude.{◌≡◌};
+
 use crate::room::Room;
 use crate::{cut, hex_of, number_of};
 use byte_parts::behind;
@@ -21,7 +23,9 @@ pub fn byte_of(word: &[u8]) -> u8 {
 }
 
 // Puts the bytes from one to another, past 255 from 0 on.
-fn put_rising(first: u8, last: u8, out: &mut Room) -> Result<(), AllocError> {
+fn put_rising(first: u8, last: u8, out: &mut Room) -> Result<(), AllocError>
+    ensures { out.new.size ≡ out.old.size }
+{
     for step in 0..=last.wrapping_sub(first) {
         out.put(&[first.wrapping_add(step)])?;
     }
@@ -29,7 +33,9 @@ fn put_rising(first: u8, last: u8, out: &mut Room) -> Result<(), AllocError> {
 }
 
 // Puts the bytes of a word: one, one so many times, or those from one to another.
-fn put_bytes(word: &[u8], out: &mut Room) -> Result<(), AllocError> {
+fn put_bytes(word: &[u8], out: &mut Room) -> Result<(), AllocError>
+    ensures { out.new.size ≡ out.old.size }
+{
     if word.contains(&b'*') {
         let (count, _) = number_of(word);
         let (_, byte) = cut(word, b'*');
@@ -43,7 +49,9 @@ fn put_bytes(word: &[u8], out: &mut Room) -> Result<(), AllocError> {
 }
 
 // Puts what words without brackets stand for; an address for which there is no room is left out.
-fn put_plain(words: &[u8], out: &mut Room) -> Result<(), AllocError> {
+fn put_plain(words: &[u8], out: &mut Room) -> Result<(), AllocError>
+    ensures { out.new.size ≡ out.old.size }
+{
     for word in words.split(|&b| b == b' ') {
         match word {
             [] => {}
@@ -55,7 +63,9 @@ fn put_plain(words: &[u8], out: &mut Room) -> Result<(), AllocError> {
 }
 
 // Puts the packet around the core that words stand for.
-fn put_packet(rt: &impl Print, words: &[u8], out: &mut Room) -> io::Result<()> {
+fn put_packet(rt: &impl Print, words: &[u8], out: &mut Room) -> io::Result<()>
+    ensures { out.new.size ≡ out.old.size }
+{
     if words.is_empty() {
         return Ok(());
     }
@@ -74,7 +84,9 @@ fn put_packet(rt: &impl Print, words: &[u8], out: &mut Room) -> io::Result<()> {
 }
 
 // Puts the bytes that words stand for.
-pub fn put(rt: &impl Print, words: &[u8], out: &mut Room) -> io::Result<()> {
+pub fn put(rt: &impl Print, words: &[u8], out: &mut Room) -> io::Result<()>
+    ensures { out.new.size ≡ out.old.size }
+{
     // Each bracket ends only what the other kind began, so the words are cut by turns and not split.
     let mut rest = words;
     while !rest.is_empty() {
