@@ -1,4 +1,5 @@
 // Scripts, checked and answered.
+use crate::rooms::Rooms;
 use crate::settings::Setup;
 use checker::Checked;
 use std::io;
@@ -38,32 +39,24 @@ fn shown(rt: &impl Print, checked: Checked, region: &[u8], known: &[u8]) -> io::
     described(rt, known)
 }
 
-// A script checked with as many bytes of the password, of the region and of the known bits as are asked for.
-pub fn answer(
-    rt: &(impl Print + AllocGlobal),
-    setup: Setup,
-    script: &[u8],
-    text: &[u8],
-) -> io::Result<()> {
+// The script checked with as many bytes of the password, of the region and of the known bits as are asked for.
+pub fn answer(rt: &impl Print, setup: Setup, rooms: &mut Rooms) -> io::Result<()> {
     let secret = secret();
     let Some(password) = secret.get(..setup.password) else {
         return print!(rt; " no such password");
     };
-    if input_rooms::REGION < setup.region || input_rooms::KNOWN < setup.known {
+    let (Some(region), Some(known)) = (
+        rooms.region.as_mut_slice().get_mut(..setup.region),
+        rooms.known.as_mut_slice().get_mut(..setup.known),
+    ) else {
         return print!(rt; " no such buffer");
-    }
-    let mut region = vec![in rt.alloc(); BEFORE; setup.region]?;
-    let mut known = vec![in rt.alloc(); BEFORE; setup.known]?;
-    let sum = expected(setup, text, &mut region);
+    };
+    let script = rooms.script.bytes();
+    let text = rooms.text.bytes();
     region.fill(BEFORE);
-    let checked = checker::check(
-        script,
-        text,
-        password,
-        sum,
-        setup.size,
-        &mut region,
-        &mut known,
-    );
-    shown(rt, checked, &region, &known)
+    let sum = expected(setup, text, region);
+    region.fill(BEFORE);
+    known.fill(BEFORE);
+    let checked = checker::check(script, text, password, sum, setup.size, region, known);
+    shown(rt, checked, region, known)
 }

@@ -20,6 +20,7 @@
 
 mod answers;
 mod lines;
+mod rooms;
 mod scripts;
 mod settings;
 

@@ -1,14 +1,17 @@
 // The script of a line, made step by step; what its room does not hold is left out.
+ghost use Rattle.std.specs.Prelude.{◌≡◌};
+
 use byte_parts::{behind, front};
-use std::alloc::AllocError;
 use std::io;
 use vector_lines::room::Room;
 use vector_lines::{cut, hex_of, number_of, packets, secret};
 
 // Leaves out the last bytes, so many.
-fn shorten(script: &mut Room, count: usize) {
-    let kept = script.bytes.len().saturating_sub(count);
-    script.bytes.truncate(kept);
+fn shorten(script: &mut Room, count: usize)
+    ensures { script.new.size ≡ script.old.size }
+{
+    let kept = script.held.saturating_sub(count);
+    script.keep(kept);
 }
 
 // Puts a byte over the one at a place, if there is one.
@@ -16,12 +19,6 @@ fn put_over(bytes: &mut [u8], at: usize, byte: u8) {
     if let Some(old) = bytes.get_mut(at) {
         *old = byte;
     }
-}
-
-// Puts the bytes that last stood behind the script's, so many.
-fn put_earlier(script: &mut Room, earlier: &[u8], count: usize) -> Result<(), AllocError> {
-    let held = script.bytes.len();
-    script.put(front(behind(earlier, held), count))
 }
 
 // The text that a script is planned of, and its size.
@@ -32,65 +29,55 @@ pub struct Planning<'a> {
 }
 
 impl Planning<'_> {
-    // Puts the planner's script of the text, with the whole password.
-    fn put(
-        &self,
-        rt: &(impl Print + AllocGlobal),
-        entry: u32,
-        script: &mut Room,
-    ) -> io::Result<()> {
+    // Puts the planner's script of the text, with the whole password. It is planned over what stands behind the script.
+    fn put(&self, rt: &impl Print, entry: u32, script: &mut Room) -> io::Result<()>
+        ensures { script.new.size ≡ script.old.size }
+    {
         let secret = secret();
-        let mut out = vec![in rt.alloc(); 0; script.left()]?;
-        match planner::plan(self.text, front(&secret, 256), entry, self.size, &mut out) {
-            Ok(n) => Ok(script.put(front(&out, n))?),
+        let held = script.held;
+        let out = &mut script.bytes[held..];
+        match planner::plan(self.text, front(&secret, 256), entry, self.size, out) {
+            Ok(n) => {
+                script.hold_more(n);
+                Ok(())
+            }
             Err(_) => print!(rt; " no plan"),
         }
     }
 
-    // Carries out a step. The earlier bytes are those that last stood at each place of a script's room.
-    fn carry_out(
-        &self,
-        rt: &(impl Print + AllocGlobal),
-        step: &[u8],
-        script: &mut Room,
-        earlier: &mut [u8],
-    ) -> io::Result<()> {
+    // Carries out a step.
+    fn carry_out(&self, rt: &impl Print, step: &[u8], script: &mut Room) -> io::Result<()>
+        ensures { script.new.size ≡ script.old.size }
+    {
         let (name, rest) = cut(step, b' ');
         let (number, others) = number_of(rest);
         let more = behind(others, 1);
         match name {
             b"head" => script.put_whole(&script::head())?,
             b"plan" => self.put(rt, hex_of(rest), script)?,
-            b"cut" => script.bytes.truncate(number),
+            b"cut" => script.keep(number),
             b"less" => shorten(script, number),
-            b"at" => {
-                put_over(&mut script.bytes, number, packets::byte_of(more));
-                put_over(earlier, number, packets::byte_of(more));
-            }
-            b"again" if number == 0 => put_earlier(script, earlier, number_of(more).0)?,
+            b"at" => put_over(&mut script.bytes, number, packets::byte_of(more)),
+            b"again" if number == 0 => script.hold_more(number_of(more).0),
             b"again" => script.go_on(number, number_of(more).0)?,
             _ => packets::put(rt, step, script)?,
         }
-        little_endian::store(&script.bytes, 0, earlier);
         Ok(())
     }
 
-    // The script that steps make, with a comma and a space between them. What an earlier script had behind it is not gone:
+    // Puts the script that steps make over the room, with a comma and a space between them. What an earlier script had behind it is not gone:
     // `again` with no byte puts it there once more.
-    pub fn script_of(
-        &self,
-        rt: &(impl Print + AllocGlobal),
-        steps: &[u8],
-        earlier: &mut [u8],
-    ) -> io::Result<Room> {
-        let mut script = Room::new(rt.alloc(), input_rooms::SCRIPT);
+    pub fn script_of(&self, rt: &impl Print, steps: &[u8], script: &mut Room) -> io::Result<()>
+        ensures { script.new.size ≡ script.old.size }
+    {
+        script.keep(0);
         // A slice is split by one byte, and two stand between steps.
         let mut rest = steps;
         while !rest.is_empty() {
             let (step, others) = cut(rest, b',');
-            self.carry_out(rt, step, &mut script, earlier)?;
+            self.carry_out(rt, step, script)?;
             rest = behind(others, 1);
         }
-        Ok(script)
+        Ok(())
     }
 }

@@ -19,47 +19,62 @@ fn escaped(letter: u8) -> u8 {
     }
 }
 
-// The bytes that words mean. A backslash with no letter behind it means itself.
-fn meant(alloc: Global, words: &[u8]) -> Result<Vec<u8>, AllocError> {
-    let mut bytes = Vec::new(alloc);
+// Puts the bytes that words mean. A backslash with no letter behind it means itself.
+fn put_meant(words: &[u8], text: &mut Room) -> Result<(), AllocError>
+    ensures { text.new.size ≡ text.old.size }
+{
     let mut behind_backslash = false;
     for &letter in words {
         if behind_backslash {
-            bytes.push(escaped(letter))?;
+            text.put(&[escaped(letter)])?;
             behind_backslash = false;
         } else if letter == b'\\' {
             behind_backslash = true;
         } else {
-            bytes.push(letter)?;
+            text.put(&[letter])?;
         }
     }
     if behind_backslash {
-        bytes.push(b'\\')?;
+        text.put(b"\\")?;
     }
-    Ok(bytes)
+    Ok(())
 }
 
 // Puts what a part of the words stands for, which is a count and a unit if it is counted.
 fn put_part(part: &[u8], counted: bool, text: &mut Room) -> Result<(), AllocError>
     ensures { text.new.size ≡ text.old.size }
 {
-    let alloc = *text.bytes.allocator();
     if !counted {
-        return text.put(&meant(alloc, part)?);
+        return put_meant(part, text);
     }
     let (count, unit) = number_of(part);
-    let unit = meant(alloc, behind(unit, 1))?;
-    text.put_repeated(&unit, unit.len().saturating_mul(count))
+    if count == 0 {
+        return Ok(());
+    }
+    let before = text.held;
+    put_meant(behind(unit, 1), text)?;
+    let length = text.held.saturating_sub(before);
+    text.go_on(length, length.saturating_mul(count - 1))
 }
 
-// The text of words whose parts, between stars, are by turns plain and a count with a unit, as much of it as
-// a room of the size holds: the rooms are longer than any text that is read.
+// Puts the text of words whose parts, between stars, are by turns plain and a count with a unit, as much of it as
+// the room holds: the rooms are longer than any text that is read.
+pub fn put_text(words: &[u8], text: &mut Room) -> Result<(), AllocError>
+    ensures { text.new.size ≡ text.old.size }
+{
+    for (i, part) in words.split(|&b| b == b'*').enumerate() {
+        put_part(part, i % 2 == 1, text)?;
+    }
+    Ok(())
+}
+
+// The text of such words, as much of it as a room of the size holds.
 pub fn read_text(alloc: Global, words: &[u8], size: usize) -> Result<Vec<u8>, AllocError>
     ensures { IfOk result (λ text. vec_len text ≤ size) }
 {
     let mut text = Room::new(alloc, size);
-    for (i, part) in words.split(|&b| b == b'*').enumerate() {
-        put_part(part, i % 2 == 1, &mut text)?;
-    }
+    put_text(words, &mut text)?;
+    let held = text.held;
+    text.bytes.truncate(held);
     Ok(text.bytes)
 }
