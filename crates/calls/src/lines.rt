@@ -9,12 +9,12 @@ use vector_lines::{cut, packets, read_settings};
 const ROOM: usize = 16400;
 
 // What stands behind a label carried out on the bench. Before a call the lengths that are lent hold for that call only.
-fn answer(rt: &(impl Print + AllocGlobal), bench: &mut Bench, words: &[u8]) -> io::Result<()> {
+fn answer(rt: &impl Print, bench: &mut Bench, bytes: &mut Room, words: &[u8]) -> io::Result<()> {
     let before = bench.lent;
     let rest = read_settings(words, bench);
     let (order, _) = cut(rest, b' ');
-    let mut bytes = Room::new(rt.alloc(), ROOM);
-    packets::put(rt, behind(rest, order.len()), &mut bytes)?;
+    bytes.keep(0);
+    packets::put(rt, behind(rest, order.len()), bytes)?;
     match order {
         b"call" => {
             bench.call(rt, bytes.bytes())?;
@@ -29,5 +29,6 @@ fn answer(rt: &(impl Print + AllocGlobal), bench: &mut Bench, words: &[u8]) -> i
 
 pub fn run(rt: &(impl Print + AllocGlobal), input: &[u8]) -> io::Result<()> {
     let mut bench = Bench::new(rt.alloc())?;
-    vector_lines::answer_lines(rt, input, |words| answer(rt, &mut bench, words))
+    let mut bytes = Room::whole(rt.alloc(), ROOM)?;
+    vector_lines::answer_lines(rt, input, |words| answer(rt, &mut bench, &mut bytes, words))
 }

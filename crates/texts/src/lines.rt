@@ -1,7 +1,8 @@
 // The lines of texts: each text made, read into a region, and answered.
 use byte_parts::behind;
 use std::io;
-use vector_lines::words::read_text;
+use vector_lines::room::Room;
+use vector_lines::words::put_text;
 use vector_lines::{number_of, show};
 
 // What every byte of a region is before the call.
@@ -18,22 +19,26 @@ fn read(rt: &impl Print, text: &[u8], size: usize, region: &mut [u8]) -> io::Res
     }
 }
 
-// The answer to a size, the region's length behind a slash if it is another, and the words of a text.
-fn answer(rt: &(impl Print + AllocGlobal), case: &[u8]) -> io::Result<()> {
-    let alloc = rt.alloc();
+// The answer to a size, the region's length behind a slash if it is another, and the words of a text, which is put
+// over the room of a text and read into the front of the region.
+fn answer(rt: &impl Print, case: &[u8], text: &mut Room, region: &mut [u8]) -> io::Result<()> {
     let (size, rest) = number_of(case);
     let (length, rest) = match rest.strip_prefix(b"/") {
         Some(digits) => number_of(digits),
         None => (size, rest),
     };
-    if input_rooms::REGION < length {
+    let Some(region) = region.get_mut(..length) else {
         return print!(rt; " no region of that length");
-    }
-    let text = read_text(alloc, behind(rest, 1), input_rooms::TEXT)?;
-    let mut region = vec![in alloc; BEFORE; length]?;
-    read(rt, &text, size, &mut region)
+    };
+    text.keep(0);
+    put_text(behind(rest, 1), text)?;
+    region.fill(BEFORE);
+    read(rt, text.bytes(), size, region)
 }
 
+// The memory is all asked for before the first line, so that no line runs out of it.
 pub fn run(rt: &(impl Print + AllocGlobal), input: &[u8]) -> io::Result<()> {
-    vector_lines::answer_lines(rt, input, |words| answer(rt, words))
+    let mut text = Room::whole(rt.alloc(), input_rooms::TEXT)?;
+    let mut region = vec![in rt.alloc(); 0; input_rooms::REGION]?;
+    vector_lines::answer_lines(rt, input, |words| answer(rt, words, &mut text, &mut region))
 }
