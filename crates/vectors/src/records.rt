@@ -303,9 +303,9 @@ fn taken(base: [u8; 64], at: usize, bit: u8) -> bool {
 
 fn mark(rt: &impl Print, base: [u8; 64], at: usize, bit: u8) -> io::Result<()> {
     if taken(base, at, bit) {
-        return print!(rt; ".");
+        return show::text(rt, b".");
     }
-    print!(rt; "x")
+    show::text(rt, b"x")
 }
 
 // The bits of a byte, the highest first.
