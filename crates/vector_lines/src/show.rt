@@ -8,8 +8,9 @@ pub fn text(rt: &impl Print, words: &[u8]) -> io::Result<()> {
     rt.write_all(words)
 }
 
+// Words with nothing to format are written as they are: a format goes through a buffer that is cleared first.
 pub fn line_end(rt: &impl Print) -> io::Result<()> {
-    println!(rt;)
+    text(rt, b"\n")
 }
 
 // Bytes in hexadecimal digits, each behind a space.
@@ -44,9 +45,9 @@ pub fn refused(rt: &impl Print, refusal: Refused) -> io::Result<()> {
 // Whether lent memory is as it was.
 pub fn kept(rt: &impl Print, same: bool) -> io::Result<()> {
     if same {
-        return print!(rt; " kept");
+        return text(rt, b" kept");
     }
-    print!(rt; " touched")
+    text(rt, b" touched")
 }
 
 // Whether every byte of lent memory is still the value that it was lent with.
@@ -62,15 +63,15 @@ pub fn refused_and_kept(
     before: u8,
 ) -> io::Result<()> {
     refused(rt, refusal)?;
-    print!(rt; ",")?;
+    text(rt, b",")?;
     kept_as(rt, lent, before)
 }
 
 // The name of a mode.
 pub fn mode(rt: &impl Print, mode: Mode) -> io::Result<()> {
     match mode {
-        Mode::Application => print!(rt; " application"),
-        Mode::Locked => print!(rt; " locked"),
-        Mode::Unlocked => print!(rt; " unlocked"),
+        Mode::Application => text(rt, b" application"),
+        Mode::Locked => text(rt, b" locked"),
+        Mode::Unlocked => text(rt, b" unlocked"),
     }
 }
