@@ -65,8 +65,8 @@ impl Planning<'_> {
         Ok(())
     }
 
-    // Puts the script that steps make over the room, with a comma and a space between them. What an earlier script had behind it is not gone:
-    // `again` with no byte puts it there once more.
+    // Puts the script that steps make, with a comma and a space between them, into the room, which holds nothing else then.
+    // What an earlier script had behind it is not gone: `again` with no byte puts it there once more.
     pub fn script_of(&self, rt: &impl Print, steps: &[u8], script: &mut Room) -> io::Result<()>
         ensures { script.new.size ≡ script.old.size }
     {

@@ -5,7 +5,7 @@ ghost use Rattle.std.specs.Prelude.{◌≡◌};
 
 use crate::room::Room;
 use crate::{cut, hex_of, number_of};
-use byte_parts::behind;
+use byte_parts::{behind, front};
 use std::alloc::AllocError;
 use std::io;
 
@@ -26,10 +26,13 @@ pub fn byte_of(word: &[u8]) -> u8 {
 fn put_rising(first: u8, last: u8, out: &mut Room) -> Result<(), AllocError>
     ensures { out.new.size ≡ out.old.size }
 {
-    for step in 0..=last.wrapping_sub(first) {
-        out.put(&[first.wrapping_add(step)])?;
+    let mut bytes = [0; 256];
+    let mut next = first;
+    for byte in &mut bytes {
+        *byte = next;
+        next = next.wrapping_add(1);
     }
-    Ok(())
+    out.put(front(&bytes, usize::from(last.wrapping_sub(first)) + 1))
 }
 
 // Puts the bytes of a word: one, one so many times, or those from one to another.
