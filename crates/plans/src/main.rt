@@ -13,6 +13,7 @@
 mod answers;
 mod lines;
 mod packets;
+mod rooms;
 
 use std::io;
 

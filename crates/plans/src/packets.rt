@@ -2,7 +2,6 @@
 use byte_parts::behind;
 use loader::{Loader, Mode};
 use packet::Command;
-use std::alloc::{AllocError, Global};
 use std::io;
 
 // The length of a script's head.
@@ -22,25 +21,52 @@ pub struct Sent {
     pub mode: Mode,
 }
 
-// The packets of a script, unless its head is not right or it ends inside a packet.
-#[tactic(auto, unfolding(script::specs::Script::front_of))]
-pub fn of(alloc: Global, script: &[u8]) -> Result<Option<Vec<Packet<'_>>>, AllocError> {
-    if !script::is_headed(script) {
-        return Ok(None);
+// The packets of a script behind its head, one after the other, and how many they are.
+#[derive(Clone, Copy)]
+pub struct Packets<'a> {
+    pub count: usize,
+    script: &'a [u8],
+    at: usize,
+}
+
+impl<'a> Packets<'a> {
+    // The packets of a script, unless its head is not right or it ends inside a packet.
+    #[tactic(auto, unfolding(script::specs::Script::front_of))]
+    pub fn of(script: &'a [u8]) -> Option<Packets<'a>> {
+        if !script::is_headed(script) {
+            return None;
+        }
+        let mut count = 0;
+        // Where a packet ends shows at its own front alone.
+        let mut rest = behind(script, HEAD);
+        while !rest.is_empty() {
+            rest = behind(rest, script::front(rest)?);
+            count += 1;
+        }
+        Some(Packets {
+            count,
+            script,
+            at: HEAD,
+        })
     }
-    let mut packets = Vec::new(alloc);
-    // Where a packet ends shows at its own front alone.
-    let mut rest = behind(script, HEAD);
-    while !rest.is_empty() {
-        let Some(n) = script::front(rest) else {
-            return Ok(None);
-        };
-        let (bytes, others) = rest.split_at(n);
-        let at = script.len() - rest.len();
-        packets.push(Packet { at, bytes })?;
-        rest = others;
+}
+
+impl<'a> Iterator for Packets<'a> {
+    type Item = Packet<'a>;
+
+    ghost use Rattle.std.specs.Iterator.{at_most};
+    ghost use Rattle.std.specs.Prelude.{◌-◌, length};
+
+    ghost remaining = { λ packets. at_most (length packets.script.now - packets.at) };
+
+    #[tactic(auto, unfolding(script::specs::Script::front_of))]
+    fn next(&mut self) -> Option<Packet<'a>> {
+        let at = self.at;
+        let rest = behind(self.script, at);
+        let bytes = rest.get(..script::front(rest)?)?;
+        self.at += bytes.len();
+        Some(Packet { at, bytes })
     }
-    Ok(Some(packets))
 }
 
 // The address of a core, and how many bytes follow it.
@@ -59,8 +85,8 @@ fn show_core(rt: &impl Print, core: &[u8]) -> io::Result<()> {
 }
 
 // A line for each of the packets.
-pub fn list(rt: &impl Print, packets: &[Packet<'_>]) -> io::Result<()> {
-    for &Packet { at, bytes } in packets {
+pub fn list(rt: &impl Print, packets: Packets<'_>) -> io::Result<()> {
+    for Packet { at, bytes } in packets {
         let core = packet::core(bytes);
         let code = little_endian::byte_at(core, 0);
         let acknowledgement = packet::acknowledgement(bytes);
@@ -72,7 +98,7 @@ pub fn list(rt: &impl Print, packets: &[Packet<'_>]) -> io::Result<()> {
 }
 
 // Sends the packets one by one to a locked loader.
-pub fn send(packets: &[Packet<'_>], expected: u16, password: &[u8], region: &mut [u8]) -> Sent {
+pub fn send(packets: Packets<'_>, expected: u16, password: &[u8], region: &mut [u8]) -> Sent {
     let mut loader = Loader {
         mode: Mode::Locked,
         expected,
@@ -82,7 +108,7 @@ pub fn send(packets: &[Packet<'_>], expected: u16, password: &[u8], region: &mut
         let received = loader::receive(loader, region, password, packet.bytes);
         loader = received.loader;
         if loader::succeeded(received.reply) {
-            succeeded += 1;
+            succeeded = succeeded.saturating_add(1);
         }
     }
     Sent {

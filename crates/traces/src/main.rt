@@ -6,7 +6,7 @@
 // for the packet around it. A text is answered line by line, a stroke behind each, or by its length and its checksum.
 #![tactic(auto)]
 
-use byte_parts::front;
+use byte_parts::{front, front_mut};
 use refusal::Refusal;
 use std::io;
 use vector_lines::room::Room;
@@ -33,38 +33,51 @@ fn shown(rt: &impl Print, text: &[u8]) -> io::Result<()> {
     Ok(())
 }
 
-// What is written of a script into a buffer that has the room for it, or that it is refused.
-fn written<R: Print + AllocGlobal, F: Fn(&[u8], &mut [u8]) -> Result<usize, Refusal>>(
+// What is written of a script into the front of a text, which has the room for it, or that it is refused.
+fn written<R: Print, F: Fn(&[u8], &mut [u8]) -> Result<usize, Refusal>>(
     rt: &R,
     script: &[u8],
+    text: &mut [u8],
     room: usize,
     write: F,
 ) -> io::Result<()>
     requires { F.IsAlwaysCallable write }
 {
-    let mut text = vec![in rt.alloc(); 0u8; room]?;
-    match write(script, &mut text) {
+    match write(script, front_mut(text, room)) {
         Err(why) => {
             let number = u8::from(why);
             print!(rt; " refused {number}")
         }
-        Ok(length) => shown(rt, front(&text, length)),
+        Ok(length) => shown(rt, front(text, length)),
     }
 }
 
-// The answer to an order and the bytes of a script.
-fn answer(rt: &(impl Print + AllocGlobal), words: &[u8]) -> io::Result<()> {
+// The answer to an order and the bytes of a script, with a room for the script and the longest text.
+fn answer(rt: &impl Print, words: &[u8], script: &mut Room, text: &mut [u8]) -> io::Result<()> {
     let (order, bytes) = cut(words, b' ');
-    let mut script = Room::new(rt.alloc(), SCRIPT);
-    packets::put(rt, bytes, &mut script)?;
+    script.keep(0);
+    packets::put(rt, bytes, script)?;
     let script = script.bytes();
     match order {
-        b"cuts" => written(rt, script, trace_text::CUTS_ROOM, trace_text::write_cuts),
-        _ => written(rt, script, trace_text::ROOM, trace_text::write),
+        b"cuts" => written(
+            rt,
+            script,
+            text,
+            trace_text::CUTS_ROOM,
+            trace_text::write_cuts,
+        ),
+        _ => written(rt, script, text, trace_text::ROOM, trace_text::write),
     }
+}
+
+// The memory is all asked for before the first line, so that no line runs out of it.
+fn run(rt: &(impl Print + AllocGlobal), input: &[u8]) -> io::Result<()> {
+    let mut script = Room::whole(rt.alloc(), SCRIPT)?;
+    let mut text = vec![in rt.alloc(); 0u8; trace_text::CUTS_ROOM]?;
+    vector_lines::answer_lines(rt, input, |words| answer(rt, words, &mut script, &mut text))
 }
 
 fn main(rt: HostRuntime) -> io::Result<()> {
     let input = vector_lines::input(&rt)?;
-    vector_lines::answer_lines(&rt, &input, |words| answer(&rt, words))
+    run(&rt, &input)
 }

@@ -140,17 +140,40 @@ pub fn hex_of(word: &[u8]) -> u32 {
     number_in(16, 0x1000_0000, word).0
 }
 
+// The byte of a space and two digits, if these stand there.
+fn listed(word: &[u8]) -> Option<u8> {
+    let [b' ', high, low] = word else {
+        return None;
+    };
+    let high = digit_of(*high, 16)?;
+    let low = digit_of(*low, 16)?;
+    Some((16 * high + low) as u8)
+}
+
 // The bytes of a list of two digits each, a space before each, if it is one.
 pub fn read_bytes(alloc: Global, words: &[u8]) -> Result<Option<Vec<u8>>, AllocError> {
     let mut bytes = Vec::new(alloc);
     for word in words.chunks(3) {
-        let [b' ', high, low] = word else {
+        let Some(byte) = listed(word) else {
             return Ok(None);
         };
-        let (Some(high), Some(low)) = (digit_of(*high, 16), digit_of(*low, 16)) else {
-            return Ok(None);
-        };
-        bytes.push((16 * high + low) as u8)?;
+        bytes.push(byte)?;
     }
     Ok(Some(bytes))
+}
+
+// Puts the bytes of such a list over the front of others, and answers how many they are, if it is one and there is room.
+pub fn put_listed(words: &[u8], out: &mut [u8]) -> Option<usize>
+    ensures whole { IfSome result (λ count. 3 * count ≡ length words.now) }
+    ensures within { IfSome result (λ count. count ≤ length out.old) }
+{
+    let count = words.len() / 3;
+    let out = out.get_mut(..count)?;
+    if words.len() % 3 != 0 {
+        return None;
+    }
+    for (byte, word) in out.iter_mut().zip(words.chunks(3)) {
+        *byte = listed(word)?;
+    }
+    Some(count)
 }

@@ -1,11 +1,11 @@
 // The bytes that the words of a line stand for: two hexadecimal digits are a byte, `256*ff` is a byte so
 // many times, `00..ff` the bytes from one to another, `@1f780` the four bytes of an address, low byte
 // first; words in brackets are a core, which stands for the packet around it.
-ghost use Rattle.std.specs.Prelude.{◌≡◌};
+ghost use Rattle.std.specs.Prelude.{◌≡◌, ◌≤◌, length};
 
 use crate::room::Room;
 use crate::{cut, hex_of, number_of};
-use byte_parts::{behind, front};
+use byte_parts::{behind, front, front_mut};
 use std::alloc::AllocError;
 use std::io;
 
@@ -22,33 +22,67 @@ pub fn byte_of(word: &[u8]) -> u8 {
     (hex_of(word) & 0xFF) as u8
 }
 
-// Puts the bytes from one to another, past 255 from 0 on.
-fn put_rising(first: u8, last: u8, out: &mut Room) -> Result<(), AllocError>
-    ensures { out.new.size ≡ out.old.size }
-{
-    let mut bytes = [0; 256];
-    let mut next = first;
-    for byte in &mut bytes {
-        *byte = next;
-        next = next.wrapping_add(1);
-    }
-    out.put(front(&bytes, usize::from(last.wrapping_sub(first)) + 1))
+// Bytes behind each other: the first, by how much each next one is greater, past 255 from 0 on, and how many there are.
+#[derive(Clone, Copy)]
+struct Run {
+    first: u8,
+    step: u8,
+    count: usize,
 }
 
-// Puts the bytes of a word: one, one so many times, or those from one to another.
-fn put_bytes(word: &[u8], out: &mut Room) -> Result<(), AllocError>
-    ensures { out.new.size ≡ out.old.size }
-{
+// The bytes of a word: one, one so many times, or those from one to another.
+fn meant(word: &[u8]) -> Run {
     if word.contains(&b'*') {
         let (count, _) = number_of(word);
         let (_, byte) = cut(word, b'*');
-        return out.put_repeated(&[byte_of(byte)], count);
+        return Run {
+            first: byte_of(byte),
+            step: 0,
+            count,
+        };
     }
     if word.contains(&b'.') {
         let (first, last) = cut(word, b'.');
-        return put_rising(byte_of(first), byte_of(behind(last, 1)), out);
+        let first = byte_of(first);
+        let last = byte_of(behind(last, 1));
+        return Run {
+            first,
+            step: 1,
+            count: usize::from(last.wrapping_sub(first)) + 1,
+        };
     }
-    out.put(&[byte_of(word)])
+    Run {
+        first: byte_of(word),
+        step: 0,
+        count: 1,
+    }
+}
+
+impl Run {
+    // Puts the bytes over the front of others, as many as there are of those, and answers how many.
+    fn put_over(self, out: &mut [u8]) -> usize
+        ensures { result ≤ length out.old }
+    {
+        let count = self.count.min(out.len());
+        let mut next = self.first;
+        for byte in front_mut(out, count) {
+            *byte = next;
+            next = next.wrapping_add(self.step);
+        }
+        count
+    }
+
+    // Puts the bytes into a room.
+    fn put(self, out: &mut Room) -> Result<(), AllocError>
+        ensures { out.new.size ≡ out.old.size }
+    {
+        if self.step == 0 {
+            return out.put_repeated(&[self.first], self.count);
+        }
+        let mut bytes = [0; 256];
+        let count = self.put_over(&mut bytes);
+        out.put(front(&bytes, count))
+    }
 }
 
 // Puts what words without brackets stand for; an address for which there is no room is left out.
@@ -59,10 +93,41 @@ fn put_plain(words: &[u8], out: &mut Room) -> Result<(), AllocError>
         match word {
             [] => {}
             [b'@', address @ ..] => out.put_whole(&hex_of(address).to_le_bytes())?,
-            _ => put_bytes(word, out)?,
+            _ => meant(word).put(out)?,
         }
     }
     Ok(())
+}
+
+// Puts the four bytes of an address over the front of others, and answers how many it has put: none if there are fewer.
+fn put_address(address: u32, out: &mut [u8]) -> usize
+    ensures { result ≤ length out.old }
+{
+    let bytes = address.to_le_bytes();
+    match out.get_mut(..bytes.len()) {
+        Some(out) => {
+            out.copy_from_slice(&bytes);
+            bytes.len()
+        }
+        None => 0,
+    }
+}
+
+// Puts the core that words stand for over the front of bytes, and answers how many it has. It asks for no memory, so that no
+// line runs out of it.
+fn put_core(words: &[u8], out: &mut [u8]) -> usize
+    ensures { result ≤ length out.old }
+{
+    let mut held = 0;
+    for word in words.split(|&b| b == b' ') {
+        let rest = &mut out[held..];
+        held += match word {
+            [] => 0,
+            [b'@', address @ ..] => put_address(hex_of(address), rest),
+            _ => meant(word).put_over(rest),
+        };
+    }
+    held
 }
 
 // Puts the packet around the core that words stand for.
@@ -72,17 +137,16 @@ fn put_packet(rt: &impl Print, words: &[u8], out: &mut Room) -> io::Result<()>
     if words.is_empty() {
         return Ok(());
     }
-    let alloc = *out.bytes.allocator();
-    let mut core = Room::new(alloc, CORE);
-    put_plain(words, &mut core)?;
-    let mut message = vec![in alloc; 0; core.bytes().len() + 5]?;
-    if out.left() < message.len() {
+    let mut core = [0; CORE];
+    let count = put_core(words, &mut core);
+    if out.left() < count + 5 {
         return print!(rt; " no room for the packet");
     }
-    if !packet::write(core.bytes(), &mut message) {
+    let mut message = [0; CORE + 5];
+    if !packet::write(front(&core, count), &mut message) {
         return print!(rt; " no packet around this core");
     }
-    out.put(&message)?;
+    out.put(front(&message, count + 5))?;
     Ok(())
 }
 

@@ -25,16 +25,17 @@ fn answer(rt: &impl Print, kind: u8, bytes: &[u8]) -> io::Result<()> {
 }
 
 // The answer to a kind and a list of bytes.
-fn vector(rt: &(impl Print + AllocGlobal), words: &[u8]) -> io::Result<()> {
+fn vector(rt: &impl Print, words: &[u8]) -> io::Result<()> {
     let Some((&kind, list)) = words.split_first() else {
         return Ok(());
     };
-    match vector_lines::read_bytes(rt.alloc(), list)? {
-        Some(bytes) if bytes.len() <= LONGEST => answer(rt, kind, &bytes),
-        _ => print!(rt; " not a list of at most {LONGEST} bytes"),
+    let mut bytes = [0; LONGEST];
+    match vector_lines::put_listed(list, &mut bytes) {
+        Some(count) => answer(rt, kind, &bytes[..count]),
+        None => print!(rt; " not a list of at most {LONGEST} bytes"),
     }
 }
 
-pub fn run(rt: &(impl Print + AllocGlobal), input: &[u8]) -> io::Result<()> {
+pub fn run(rt: &impl Print, input: &[u8]) -> io::Result<()> {
     vector_lines::answer_lines(rt, input, |words| vector(rt, words))
 }
