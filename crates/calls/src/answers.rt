@@ -9,7 +9,7 @@ use vector_lines::show;
 pub const BEFORE: u8 = 0xEE;
 
 pub fn region_checksum(rt: &impl Print, region: &[u8]) -> io::Result<()> {
-    print!(rt; ", region")?;
+    show::text(rt, b", region")?;
     show::checksum(rt, region)
 }
 
@@ -31,15 +31,15 @@ pub fn replied(
     let Replied { count, success } = said;
     print!(rt; " {count}")?;
     let Some((reply, rest)) = reply.split_at_checked(count) else {
-        return print!(rt; " above the buffer's length");
+        return show::text(rt, b" above the buffer's length");
     };
     show::bytes(rt, reply)?;
     if success {
-        print!(rt; ", success")?;
+        show::text(rt, b", success")?;
     }
-    print!(rt; ",")?;
+    show::text(rt, b",")?;
     show::mode(rt, mode)?;
     region_checksum(rt, region)?;
-    print!(rt; ", rest")?;
+    show::text(rt, b", rest")?;
     show::kept_as(rt, rest, BEFORE)
 }

@@ -68,7 +68,7 @@ impl Bench {
             self.password.as_slice().get(..lent.password),
             room.get_mut(..lent.reply),
         ) else {
-            return print!(rt; " no memory of that length");
+            return show::text(rt, b" no memory of that length");
         };
         let sum = crc::checksum(crc::START, region);
         let called = card::call(before, lent.size, region, password, message, reply);
@@ -99,9 +99,9 @@ impl Bench {
         let record = sensor_reader::values(bytes);
         self.card.record = record;
         if sensor_values::sound(record) {
-            return print!(rt; " sound");
+            return show::text(rt, b" sound");
         }
-        print!(rt; " breaks its rule")
+        show::text(rt, b" breaks its rule")
     }
 
     // The card's mode, and the checksum of the region that is lent.
@@ -109,7 +109,7 @@ impl Bench {
         show::mode(rt, self.card.loader.mode)?;
         match self.region.as_slice().get(..self.lent.region) {
             Some(region) => answers::region_checksum(rt, region),
-            None => print!(rt; ", no region of that length"),
+            None => show::text(rt, b", no region of that length"),
         }
     }
 }

@@ -30,12 +30,12 @@ fn shown(rt: &impl Print, checked: Checked, region: &[u8], known: &[u8]) -> io::
     let packets = checked.packets;
     let unknown = checked.unknown;
     match checked.answer {
-        Ok(()) => print!(rt; " pass")?,
+        Ok(()) => show::text(rt, b" pass")?,
         Err(refused) => show::refused(rt, refused)?,
     }
     print!(rt; ", {packets} packets, {unknown} unknown, region")?;
     described(rt, region)?;
-    print!(rt; ", known")?;
+    show::text(rt, b", known")?;
     described(rt, known)
 }
 
@@ -43,13 +43,13 @@ fn shown(rt: &impl Print, checked: Checked, region: &[u8], known: &[u8]) -> io::
 pub fn answer(rt: &impl Print, setup: Setup, rooms: &mut Rooms) -> io::Result<()> {
     let secret = secret();
     let Some(password) = secret.get(..setup.password) else {
-        return print!(rt; " no such password");
+        return show::text(rt, b" no such password");
     };
     let (Some(region), Some(known)) = (
         rooms.region.as_mut_slice().get_mut(..setup.region),
         rooms.known.as_mut_slice().get_mut(..setup.known),
     ) else {
-        return print!(rt; " no such buffer");
+        return show::text(rt, b" no such buffer");
     };
     let script = rooms.script.bytes();
     let text = rooms.text.bytes();

@@ -4,7 +4,7 @@ ghost use Rattle.std.specs.Prelude.{◌≡◌};
 use byte_parts::{behind, front};
 use std::io;
 use vector_lines::room::Room;
-use vector_lines::{cut, hex_of, number_of, packets, secret};
+use vector_lines::{cut, hex_of, number_of, packets, secret, show};
 
 // Leaves out the last bytes, so many.
 fn shorten(script: &mut Room, count: usize)
@@ -41,7 +41,7 @@ impl Planning<'_> {
                 script.hold_more(n);
                 Ok(())
             }
-            Err(_) => print!(rt; " no plan"),
+            Err(_) => show::text(rt, b" no plan"),
         }
     }
 

@@ -42,15 +42,15 @@ impl Plan<'_> {
     ) -> io::Result<()> {
         print!(rt; " planned {n} bytes,")?;
         let Some((script, rest)) = out.split_at_checked(n) else {
-            return print!(rt; " above the output's length");
+            return show::text(rt, b" above the output's length");
         };
         let Some(packets) = Packets::of(script) else {
-            return print!(rt; " no script");
+            return show::text(rt, b" no script");
         };
         let count = packets.count;
         print!(rt; " {count} packets, checksum")?;
         show::checksum(rt, script)?;
-        print!(rt; ", rest")?;
+        show::text(rt, b", rest")?;
         show::kept_as(rt, rest, BEFORE)?;
         self.send(rt, packets, regions)?;
         if self.listed {
@@ -66,7 +66,7 @@ impl Plan<'_> {
             regions.region.as_mut_slice().get_mut(..self.size),
             regions.picture.as_mut_slice().get_mut(..self.size),
         ) else {
-            return print!(rt; " no region of that length");
+            return show::text(rt, b" no region of that length");
         };
         region.fill(OLD);
         picture.fill(0);
@@ -77,8 +77,8 @@ impl Plan<'_> {
         print!(rt; "; sent: {succeeded} succeeded,")?;
         show::mode(rt, sent.mode)?;
         if *region == *picture {
-            return print!(rt; ", the picture");
+            return show::text(rt, b", the picture");
         }
-        print!(rt; ", another region")
+        show::text(rt, b", another region")
     }
 }

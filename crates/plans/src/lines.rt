@@ -4,7 +4,7 @@ use crate::rooms::Rooms;
 use byte_parts::behind;
 use std::io;
 use vector_lines::words::put_text;
-use vector_lines::{cut, number_of, secret};
+use vector_lines::{cut, number_of, secret, show};
 
 // The answer to numbers and the words of a text, with just as many bytes of password and output as are asked for.
 fn ask(rt: &impl Print, listed: bool, words: &[u8], rooms: &mut Rooms) -> io::Result<()> {
@@ -14,10 +14,10 @@ fn ask(rt: &impl Print, listed: bool, words: &[u8], rooms: &mut Rooms) -> io::Re
     let (room, rest) = number_of(behind(rest, 1));
     let secret = secret();
     let Some(password) = secret.get(..password) else {
-        return print!(rt; " no such password");
+        return show::text(rt, b" no such password");
     };
     let Some(out) = rooms.out.as_mut_slice().get_mut(..room) else {
-        return print!(rt; " no such room");
+        return show::text(rt, b" no such room");
     };
     rooms.text.keep(0);
     put_text(behind(rest, 1), &mut rooms.text)?;
@@ -38,7 +38,7 @@ fn answer(rt: &impl Print, words: &[u8], rooms: &mut Rooms) -> io::Result<()> {
     match order {
         b"plan" => ask(rt, false, rest, rooms),
         b"list" => ask(rt, true, rest, rooms),
-        _ => print!(rt; " no such order"),
+        _ => show::text(rt, b" no such order"),
     }
 }
 

@@ -12,7 +12,7 @@ const BEFORE: u8 = 0xA5;
 fn read(rt: &impl Print, text: &[u8], size: usize, region: &mut [u8]) -> io::Result<()> {
     match ti_txt::read(text, size, region) {
         Ok(()) => {
-            print!(rt; " filled")?;
+            show::text(rt, b" filled")?;
             show::checksum(rt, region)
         }
         Err(refused) => show::refused_and_kept(rt, refused, region, BEFORE),
@@ -28,7 +28,7 @@ fn answer(rt: &impl Print, case: &[u8], text: &mut Room, region: &mut [u8]) -> i
         None => (size, rest),
     };
     let Some(region) = region.get_mut(..length) else {
-        return print!(rt; " no region of that length");
+        return show::text(rt, b" no region of that length");
     };
     text.keep(0);
     put_text(behind(rest, 1), text)?;

@@ -4,7 +4,7 @@
 ghost use Rattle.std.specs.Prelude.{◌≡◌, ◌≤◌, length};
 
 use crate::room::Room;
-use crate::{cut, hex_of, number_of};
+use crate::{cut, hex_of, number_of, show};
 use byte_parts::{behind, front, front_mut};
 use std::alloc::AllocError;
 use std::io;
@@ -139,14 +139,17 @@ fn put_packet(rt: &impl Print, words: &[u8], out: &mut Room) -> io::Result<()>
     }
     let mut core = [0; CORE];
     let count = put_core(words, &mut core);
-    if out.left() < count + 5 {
-        return print!(rt; " no room for the packet");
+    let length = count + 5;
+    if out.left() < length {
+        return show::text(rt, b" no room for the packet");
     }
-    let mut message = [0; CORE + 5];
-    if !packet::write(front(&core, count), &mut message) {
-        return print!(rt; " no packet around this core");
+    let start = out.held;
+    let end = start + length;
+    out.reach(end)?;
+    if !packet::write(front(&core, count), &mut out.bytes[start..end]) {
+        return show::text(rt, b" no packet around this core");
     }
-    out.put(front(&message, count + 5))?;
+    out.hold_more(length);
     Ok(())
 }
 

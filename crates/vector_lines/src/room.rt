@@ -70,7 +70,7 @@ impl Room {
     }
 
     // Has at least so many bytes stand in the room, held or not.
-    fn reach(&mut self, count: usize) -> Result<(), AllocError>
+    pub(crate) fn reach(&mut self, count: usize) -> Result<(), AllocError>
         requires { count ≤ self.old.size }
         ensures enough { OnOk result (count ≤ vec_len self.new.bytes) }
         ensures kept { take self.old.held self.new.bytes.items ≡ take self.old.held self.old.bytes.items }

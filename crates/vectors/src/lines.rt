@@ -3,7 +3,7 @@ use crate::{packets, records};
 use std::io;
 use vector_lines::show;
 
-// How many bytes a vector has at most.
+// How many bytes a vector has at most, as the answer to a longer one says.
 const LONGEST: usize = 512;
 
 // The answer to a vector of a kind.
@@ -20,7 +20,7 @@ fn answer(rt: &impl Print, kind: u8, bytes: &[u8]) -> io::Result<()> {
         b'r' => records::read(rt, bytes),
         b'v' => records::write(rt, bytes),
         b'b' => records::bit_map(rt, bytes),
-        _ => print!(rt; " no such kind"),
+        _ => show::text(rt, b" no such kind"),
     }
 }
 
@@ -32,7 +32,7 @@ fn vector(rt: &impl Print, words: &[u8]) -> io::Result<()> {
     let mut bytes = [0; LONGEST];
     match vector_lines::put_listed(list, &mut bytes) {
         Some(count) => answer(rt, kind, &bytes[..count]),
-        None => print!(rt; " not a list of at most {LONGEST} bytes"),
+        None => show::text(rt, b" not a list of at most 512 bytes"),
     }
 }
 

@@ -28,14 +28,14 @@ fn command(rt: &impl Print, core: &[u8]) -> io::Result<()> {
     let address = packet::address(core);
     let length = packet::range_length(core);
     match packet::command_of(core) {
-        Command::Password => print!(rt; " password"),
-        Command::Erase => print!(rt; " erase"),
+        Command::Password => show::text(rt, b" password"),
+        Command::Erase => show::text(rt, b" erase"),
         Command::Write => print!(rt; " write, address {address:08x}"),
         Command::RangeChecksum => {
             print!(rt; " range checksum, address {address:08x}, length {length:04x}")
         }
         Command::Start => print!(rt; " start, address {address:08x}"),
-        Command::Unknown => print!(rt; " unknown or wrong length"),
+        Command::Unknown => show::text(rt, b" unknown or wrong length"),
     }
 }
 
@@ -56,7 +56,7 @@ pub fn message(rt: &impl Print, message: &[u8]) -> io::Result<()> {
 pub fn written(rt: &impl Print, core: &[u8]) -> io::Result<()> {
     let mut out = [0xEEu8; 16];
     if !packet::write(core, &mut out) {
-        print!(rt; " not written,")?;
+        show::text(rt, b" not written,")?;
     }
     show::bytes(rt, &out)
 }
@@ -75,7 +75,10 @@ fn is_read_back(core: &[u8]) -> bool {
 
 // Cores of every length from 0 to 262.
 fn every_length(rt: &impl Print) -> io::Result<()> {
-    print!(rt; "core lengths to 262 that are not written, acknowledged and read back:")?;
+    show::text(
+        rt,
+        b"core lengths to 262 that are not written, acknowledged and read back:",
+    )?;
     let core = [0x5Au8; 262];
     for n in 0..=core.len() {
         if !is_read_back(&core[..n]) {
@@ -96,7 +99,10 @@ fn changed(rt: &impl Print, bit: u8) -> io::Result<()>
 }
 
 fn every_bit(rt: &impl Print) -> io::Result<()> {
-    print!(rt; "erase packet with one bit changed, from the low bit of its first byte:")?;
+    show::text(
+        rt,
+        b"erase packet with one bit changed, from the low bit of its first byte:",
+    )?;
     for bit in 0..48u8 {
         changed(rt, bit)?;
     }

@@ -38,7 +38,7 @@ fn refused(rt: &impl Print, why: Refusal) -> io::Result<()> {
 }
 
 fn status(rt: &impl Print, s: BoardStatus) -> io::Result<()> {
-    print!(rt; " status")?;
+    show::text(rt, b" status")?;
     show::numbers(
         rt,
         &[
@@ -57,7 +57,7 @@ fn status(rt: &impl Print, s: BoardStatus) -> io::Result<()> {
 fn security(rt: &impl Print, s: SecurityStatus) -> io::Result<()> {
     let one = s.flash1;
     let two = s.flash2;
-    print!(rt; ", security")?;
+    show::text(rt, b", security")?;
     show::numbers(
         rt,
         &[
@@ -78,7 +78,7 @@ fn sensors(rt: &impl Print, s: BoardSensors) -> io::Result<()> {
     let low = s.input_3v3;
     let main = s.input_12v;
     let aux = s.input_aux;
-    print!(rt; ", sensors")?;
+    show::text(rt, b", sensors")?;
     show::numbers(rt, &[s.inlet, s.outlet])?;
     show::numbers(
         rt,
@@ -97,7 +97,7 @@ fn sensors(rt: &impl Print, s: BoardSensors) -> io::Result<()> {
 fn device(rt: &impl Print, d: Device) -> io::Result<()> {
     let s = d.status;
     let e = d.errors;
-    print!(rt; ", device")?;
+    show::text(rt, b", device")?;
     show::numbers(
         rt,
         &[s.done, s.init_b, s.error_out, s.error_status, s.keep_alive],
@@ -112,7 +112,7 @@ fn device(rt: &impl Print, d: Device) -> io::Result<()> {
 
 fn module(rt: &impl Print, m: NetworkModule) -> io::Result<()> {
     let s = m.status;
-    print!(rt; ", module")?;
+    show::text(rt, b", module")?;
     show::numbers(rt, &[m.temperature])?;
     show::numbers(
         rt,
@@ -265,11 +265,11 @@ fn made(v: [u8; 28]) -> SensorRecord {
 // A record written over bytes ee, and the output then.
 fn write_over(rt: &impl Print, values: SensorRecord, out: &mut [u8]) -> io::Result<()> {
     match sensor_record::write(values, out) {
-        Ok(()) => print!(rt; " written")?,
+        Ok(()) => show::text(rt, b" written")?,
         Err(why) => refused(rt, why)?,
     }
     if byte_parts::every(out, 0xEE) {
-        return print!(rt; ", output as it was");
+        return show::text(rt, b", output as it was");
     }
     show::bytes(rt, out)
 }
@@ -281,7 +281,7 @@ pub fn write(rt: &impl Print, bytes: &[u8]) -> io::Result<()> {
     let mut out = [0xEEu8; 72];
     match out.get_mut(..usize::from(byte_at(bytes, 0))) {
         Some(lent) => write_over(rt, made(v), lent),
-        None => print!(rt; " no output of that length"),
+        None => show::text(rt, b" no output of that length"),
     }
 }
 
@@ -310,7 +310,7 @@ fn mark(rt: &impl Print, base: [u8; 64], at: usize, bit: u8) -> io::Result<()> {
 
 // The bits of a byte, the highest first.
 fn byte_map(rt: &impl Print, base: [u8; 64], at: usize) -> io::Result<()> {
-    print!(rt; " ")?;
+    show::text(rt, b" ")?;
     for bit in (0..8u8).rev() {
         mark(rt, base, at, bit)?;
     }
