@@ -32,6 +32,13 @@ struct Run {
 
 // The bytes of a word: one, one so many times, or those from one to another.
 fn meant(word: &[u8]) -> Run {
+    if word.iter().all(|&b| b != b'*' && b != b'.') {
+        return Run {
+            first: byte_of(word),
+            step: 0,
+            count: 1,
+        };
+    }
     if word.contains(&b'*') {
         let (count, _) = number_of(word);
         let (_, byte) = cut(word, b'*');
@@ -41,20 +48,13 @@ fn meant(word: &[u8]) -> Run {
             count,
         };
     }
-    if word.contains(&b'.') {
-        let (first, last) = cut(word, b'.');
-        let first = byte_of(first);
-        let last = byte_of(behind(last, 1));
-        return Run {
-            first,
-            step: 1,
-            count: usize::from(last.wrapping_sub(first)) + 1,
-        };
-    }
+    let (first, last) = cut(word, b'.');
+    let first = byte_of(first);
+    let last = byte_of(behind(last, 1));
     Run {
-        first: byte_of(word),
-        step: 0,
-        count: 1,
+        first,
+        step: 1,
+        count: usize::from(last.wrapping_sub(first)) + 1,
     }
 }
 
@@ -64,8 +64,14 @@ impl Run {
         ensures { result ≤ length out.old }
     {
         let count = self.count.min(out.len());
+        let out = front_mut(out, count);
+        // To fill a single byte is no work for a call.
+        if self.step == 0 && count != 1 {
+            out.fill(self.first);
+            return count;
+        }
         let mut next = self.first;
-        for byte in front_mut(out, count) {
+        for byte in out {
             *byte = next;
             next = next.wrapping_add(self.step);
         }
@@ -76,12 +82,13 @@ impl Run {
     fn put(self, out: &mut Room) -> Result<(), AllocError>
         ensures { out.new.size ≡ out.old.size }
     {
-        if self.step == 0 {
-            return out.put_repeated(&[self.first], self.count);
-        }
-        let mut bytes = [0; 256];
-        let count = self.put_over(&mut bytes);
-        out.put(front(&bytes, count))
+        let count = self.count.min(out.left());
+        let start = out.held;
+        let end = start + count;
+        out.reach(end)?;
+        self.put_over(&mut out.bytes[start..end]);
+        out.hold_more(count);
+        Ok(())
     }
 }
 

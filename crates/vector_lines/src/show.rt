@@ -4,11 +4,11 @@ use refusal::Refused;
 use std::fmt::Display;
 use std::io;
 
+// Words with nothing to format, written as they are: a format goes through a buffer that is cleared first.
 pub fn text(rt: &impl Print, words: &[u8]) -> io::Result<()> {
     rt.write_all(words)
 }
 
-// Words with nothing to format are written as they are: a format goes through a buffer that is cleared first.
 pub fn line_end(rt: &impl Print) -> io::Result<()> {
     text(rt, b"\n")
 }
