@@ -5,7 +5,7 @@ ghost use Rattle.std.specs.Prelude.{◌≡◌, ◌≤◌, length};
 
 use crate::room::Room;
 use crate::{cut, hex_of, number_of, show};
-use byte_parts::{behind, front, front_mut};
+use byte_parts::{behind, front};
 use std::alloc::AllocError;
 use std::io;
 
@@ -22,18 +22,24 @@ pub fn byte_of(word: &[u8]) -> u8 {
     (hex_of(word) & 0xFF) as u8
 }
 
-// Bytes behind each other: the first, by how much each next one is greater, past 255 from 0 on, and how many there are.
+// What a word stands for.
 #[derive(Clone, Copy)]
-struct Run {
-    first: u8,
-    step: u8,
-    count: usize,
+enum Meaning {
+    // The first byte, by how much each next one is greater, past 255 from 0 on, and how many there are.
+    Run { first: u8, step: u8, count: usize },
+    // The bytes of an address, which are put all or not at all.
+    Address([u8; 4]),
 }
 
-// The bytes of a word: one, one so many times, or those from one to another.
-fn meant(word: &[u8]) -> Run {
+// The bytes of a word: one, one so many times, those from one to another, or an address. It is built into its callers, since
+// lines are full of words of two digits.
+#[inline(always)]
+fn meaning_of(word: &[u8]) -> Meaning {
+    if let [b'@', address @ ..] = word {
+        return Meaning::Address(hex_of(address).to_le_bytes());
+    }
     if word.iter().all(|&b| b != b'*' && b != b'.') {
-        return Run {
+        return Meaning::Run {
             first: byte_of(word),
             step: 0,
             count: 1,
@@ -42,7 +48,7 @@ fn meant(word: &[u8]) -> Run {
     if word.contains(&b'*') {
         let (count, _) = number_of(word);
         let (_, byte) = cut(word, b'*');
-        return Run {
+        return Meaning::Run {
             first: byte_of(byte),
             step: 0,
             count,
@@ -51,73 +57,62 @@ fn meant(word: &[u8]) -> Run {
     let (first, last) = cut(word, b'.');
     let first = byte_of(first);
     let last = byte_of(behind(last, 1));
-    Run {
+    Meaning::Run {
         first,
         step: 1,
         count: usize::from(last.wrapping_sub(first)) + 1,
     }
 }
 
-impl Run {
-    // Puts the bytes over the front of others, as many as there are of those, and answers how many.
-    fn put_over(self, out: &mut [u8]) -> usize
-        ensures { result ≤ length out.old }
+impl Meaning {
+    // How many of the bytes are put where there is room for so many.
+    fn count_within(self, room: usize) -> usize
+        ensures { result ≤ room }
     {
-        let count = self.count.min(out.len());
-        let out = front_mut(out, count);
-        // To fill a single byte is no work for a call.
-        if self.step == 0 && count != 1 {
-            out.fill(self.first);
-            return count;
+        match self {
+            Meaning::Run { count, .. } => count.min(room),
+            Meaning::Address(bytes) if bytes.len() <= room => bytes.len(),
+            Meaning::Address(_) => 0,
         }
-        let mut next = self.first;
-        for byte in out {
-            *byte = next;
-            next = next.wrapping_add(self.step);
-        }
-        count
     }
 
-    // Puts the bytes into a room.
-    fn put(self, out: &mut Room) -> Result<(), AllocError>
-        ensures { out.new.size ≡ out.old.size }
-    {
-        let count = self.count.min(out.left());
-        let start = out.held;
-        let end = start + count;
-        out.reach(end)?;
-        self.put_over(&mut out.bytes[start..end]);
-        out.hold_more(count);
-        Ok(())
+    // Puts the first of the bytes over others, as many as those are; of an address all four, or none.
+    fn put_over(self, out: &mut [u8]) {
+        match self {
+            Meaning::Address(bytes) if out.len() == bytes.len() => out.copy_from_slice(&bytes),
+            Meaning::Address(_) => {}
+            // A single byte is not worth a call of `fill`.
+            Meaning::Run { first, step: 0, .. } if out.len() != 1 => out.fill(first),
+            Meaning::Run { first, step, .. } => put_rising(first, step, out),
+        }
     }
 }
 
-// Puts what words without brackets stand for; an address for which there is no room is left out.
+// Puts bytes over others, each by a step greater than the one before, past 255 from 0 on.
+fn put_rising(first: u8, step: u8, out: &mut [u8]) {
+    let mut next = first;
+    for byte in out {
+        *byte = next;
+        next = next.wrapping_add(step);
+    }
+}
+
+// Puts what words without brackets stand for.
 fn put_plain(words: &[u8], out: &mut Room) -> Result<(), AllocError>
     ensures { out.new.size ≡ out.old.size }
 {
     for word in words.split(|&b| b == b' ') {
-        match word {
-            [] => {}
-            [b'@', address @ ..] => out.put_whole(&hex_of(address).to_le_bytes())?,
-            _ => meant(word).put(out)?,
+        if !word.is_empty() {
+            let meaning = meaning_of(word);
+            let count = meaning.count_within(out.left());
+            let start = out.held;
+            let end = start + count;
+            out.reach(end)?;
+            meaning.put_over(&mut out.bytes[start..end]);
+            out.hold_more(count);
         }
     }
     Ok(())
-}
-
-// Puts the four bytes of an address over the front of others, and answers how many it has put: none if there are fewer.
-fn put_address(address: u32, out: &mut [u8]) -> usize
-    ensures { result ≤ length out.old }
-{
-    let bytes = address.to_le_bytes();
-    match out.get_mut(..bytes.len()) {
-        Some(out) => {
-            out.copy_from_slice(&bytes);
-            bytes.len()
-        }
-        None => 0,
-    }
 }
 
 // Puts the core that words stand for over the front of bytes, and answers how many it has. It asks for no memory, so that no
@@ -127,12 +122,12 @@ fn put_core(words: &[u8], out: &mut [u8]) -> usize
 {
     let mut held = 0;
     for word in words.split(|&b| b == b' ') {
-        let rest = &mut out[held..];
-        held += match word {
-            [] => 0,
-            [b'@', address @ ..] => put_address(hex_of(address), rest),
-            _ => meant(word).put_over(rest),
-        };
+        if !word.is_empty() {
+            let meaning = meaning_of(word);
+            let end = held + meaning.count_within(out.len() - held);
+            meaning.put_over(&mut out[held..end]);
+            held = end;
+        }
     }
     held
 }
